@@ -1,21 +1,5 @@
 -- The entries of a table by number.
-use Rattle.std.proofs.Common.{◌≡◌, ℕ, ◌+◌, ◌≤◌, ◌<◌, Bool, true, false, cond, List, [], ◌∷◌, ◌++◌, map, refl, sym, ◌∙◌, ap, subst, arith, nat_cmp}
-use Rattle.std.specs.Prelude.{Option, Some, None, is_some, IsSome, IfSome, option_and_then, nat_eq, not, find, filter, option_map, ◌==◌, if◌then◌else◌}
-use Rattle.std.specs.Option.{option_map_or}
-use Rattle.std.specs.Map.{lookup, set_value, remove_entry}
-use Rattle.std.specs.BTreeMap.{is_at}
-use Rattle.std.specs.Cmp.{unsigned_ties, nat_eq_equiv}
-use Rattle.std.proofs.lemmas.Bool.Decides.{nat_tests}
-use Rattle.std.proofs.lemmas.List.{map_push}
-use Rattle.std.proofs.lemmas.Map.{lookup-set_value}
-use Rattle.cap_model.specs.Flat.{App}
-use Rattle.cap_base.specs.Members.{IsRising}
-use Rattle.cap_model.specs.FinishMaster.{remove_app}
-use Rattle.cap_asks.specs.Accounts.{Account, HeldApp, TakesRoom, HasRoom}
-use Rattle.cap_model.specs.Reporting.{reported_of}
-use Rattle.cap_asks.specs.Apps.{AreNumbered, UsesRoom, HasRooms, IsEntered, IsLeft, account_of, new_account}
-use Rattle.cap_model.specs.News.{AllocateReply}
-use Rattle.cap_model.specs.declared.replies.Reported.{Reported}
+use Rattle.cap_asks.proofs.Prelude.{◌≡◌, ℕ, ◌+◌, ◌≤◌, ◌<◌, Bool, true, false, cond, List, [], ◌∷◌, ◌++◌, map, refl, sym, ◌∙◌, ap, subst, arith, nat_cmp, Option, Some, None, is_some, IsSome, IfSome, option_and_then, nat_eq, not, find, filter, option_map, ◌==◌, if◌then◌else◌, option_map_or, lookup, set_value, remove_entry, is_at, unsigned_ties, nat_eq_equiv, nat_tests, map_push, lookup-set_value, App, IsRising, remove_app, Account, HeldApp, TakesRoom, HasRoom, reported_of, AreNumbered, UsesRoom, HasRooms, IsEntered, IsLeft, account_of, new_account, AllocateReply, Reported}
 
 abbrev pub apps_of : List (ℕ × HeldApp) → List App
 apps_of es = map (λ e. e.1.app) es

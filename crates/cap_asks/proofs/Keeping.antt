@@ -1,20 +1,6 @@
 -- Asks in order of key: what putting one and counting one down do.
-use Rattle.std.proofs.Common.{◌≡◌, ℕ, zero, suc, ◌+◌, ◌-◌, ◌≤◌, ◌<◌, Bool, true, false, cond, List, [], ◌∷◌, length, take, refl, sym, ◌∙◌, ap, arith, add-one, length-set}
-use Rattle.std.specs.Prelude.{Some, None, is_some, not, ◌&&◌, ◌||◌, ◌==◌, insert, remove, slice_set, slice_index_or, if◌then◌else◌, nat_lt, nat_eq}
-use Rattle.std.specs.List.{fold}
-use Rattle.std.proofs.lemmas.List.Sums.{fold_more}
-use Rattle.std.proofs.lemmas.Grind.{common_steps}
-use Rattle.std.proofs.lemmas.Bool.Decides.{nat_tests}
+use Rattle.cap_asks.proofs.Prelude.{◌≡◌, ℕ, zero, suc, ◌+◌, ◌-◌, ◌≤◌, ◌<◌, Bool, true, false, cond, List, [], ◌∷◌, length, take, refl, sym, ◌∙◌, ap, arith, add-one, length-set, Some, None, is_some, not, ◌&&◌, ◌||◌, ◌==◌, insert, remove, slice_set, slice_index_or, if◌then◌else◌, nat_lt, nat_eq, fold, fold_more, common_steps, nat_tests, Key, same_key, Ask, ask_at, without_key, with_ask, put_ask, take_one, same_key_is, same_key_itself, put_is_found, others_are_found, one_less, not_same_other, first_is, is_before, AreAfter, AreKept, IsKeyIndex, index_of, keys_max}
 use mir.Val.{bool_byte}
-use Rattle.cap_model.specs.declared.ask.Key.{Key}
-use Rattle.cap_model.specs.Asks.{same_key, Ask}
-use Rattle.cap_model.specs.Flat.{ask_at}
-use Rattle.cap_model.specs.Asking.{without_key, with_ask, put_ask}
-use Rattle.cap_model.specs.Events.{take_one}
-use Rattle.cap_model.proofs.calls.KeptAsks.{same_key_is, same_key_itself, put_is_found, others_are_found, one_less, not_same_other}
-use Rattle.cap_base.proofs.lists.Tests.{first_is}
-use Rattle.cap_asks.specs.Accounts.{is_before, AreAfter, AreKept, IsKeyIndex, index_of}
-use Rattle.cap_base.specs.Limits.{keys_max}
 
 -- the order of keys in numbers
 before_numbers : (a b : Key) → is_before a b ≡ (nat_lt a.priority b.priority || nat_eq a.priority b.priority && nat_lt a.request b.request)

@@ -1,17 +1,5 @@
 -- The entries of an index whose values are held in slots.
-use Rattle.std.proofs.Common.{◌≡◌, ◌≢◌, ℕ, zero, suc, ◌+◌, ◌≤◌, ◌<◌, Bool, true, false, cond, List, [], ◌∷◌, ◌++◌, length, map, take, drop, refl, sym, ◌∙◌, ap, subst, arith, nat_cmp, get_or}
-use Rattle.std.specs.Prelude.{Box, Option, Some, None, is_some, nat_eq, option_map, insert, remove, ◌==◌}
-use Rattle.std.specs.Option.{option_map_or}
-use Rattle.std.specs.Map.{lookup, set_value, remove_entry}
-use Rattle.std.specs.BTreeMap.{insert_entry, is_at}
-use Rattle.std.specs.Cmp.{nat_cmp_is}
-use Rattle.std.specs.declared.cmp.Ordering.TheVariants.{Greater}
-use Rattle.std.proofs.lemmas.Bool.Decides.{nat_tests}
-use Rattle.std.proofs.lemmas.List.{map_push, get_or-set_same, get_or-set_other, take-map, drop-map, map-append}
-use Rattle.std.proofs.lemmas.Map.Made.{lookup-map_values}
-use Rattle.slab.specs.Slab.{Slab, ContainsKey, Updates, with_value, get}
-use Rattle.cap_asks.specs.Accounts.{HeldApp}
-use Rattle.cap_asks.specs.Apps.{AreNumbered, entries_at, held_at, nobody, slot_in}
+use Rattle.cap_asks.proofs.Prelude.{◌≡◌, ◌≢◌, ℕ, zero, suc, ◌+◌, ◌≤◌, ◌<◌, Bool, true, false, cond, List, [], ◌∷◌, ◌++◌, length, map, take, drop, refl, sym, ◌∙◌, ap, subst, arith, nat_cmp, get_or, Box, Option, Some, None, is_some, nat_eq, option_map, insert, remove, ◌==◌, option_map_or, lookup, set_value, remove_entry, insert_entry, is_at, nat_cmp_is, Greater, nat_tests, map_push, get_or-set_same, get_or-set_other, take-map, drop-map, map-append, lookup-map_values, Slab, ContainsKey, Updates, with_value, get, HeldApp, AreNumbered, entries_at, held_at, nobody, slot_in}
 use Rattle.cap_asks.proofs.Entries.{is_number, by_number, above_absent, next_absent, low_below, numbered_front, still_without, found_number, other_pushed}
 
 -- one slot holds another than before

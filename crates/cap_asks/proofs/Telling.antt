@@ -1,6 +1,5 @@
 -- News of which the told ones go.
-use Rattle.std.proofs.Common.{◌≡◌, ℕ, ◌+◌, ◌-◌, ◌≤◌, List, length, take, drop, sym, ◌∙◌, ap, arith, min, length-drop}
-use Rattle.std.proofs.lemmas.List.{take_min, drop_min, drop-drop}
+use Rattle.cap_asks.proofs.Prelude.{◌≡◌, ℕ, ◌+◌, ◌-◌, ◌≤◌, List, length, take, drop, sym, ◌∙◌, ap, arith, min, length-drop, take_min, drop_min, drop-drop}
 
 -- the oldest of those that wait are told, where some of the first are forgotten and still there
 pub record AreTold {T : Type 0} (n still gone most : ℕ) (xs left : List T) : Type 0 where

@@ -1,28 +1,6 @@
 -- The numbers of the applications that wait.
-use Rattle.std.proofs.Common.{◌≡◌, ℕ, zero, suc, ◌+◌, ◌≤◌, ◌<◌, Bool, true, false, cond, inl, inr, List, [], ◌∷◌, ◌++◌, length, length-append, take, map, refl, sym, ◌∙◌, ap, subst, arith, nat_cmp, get_or}
-use Rattle.std.specs.Prelude.{Box, Option, is_some, Some, None, Ok, Err, nat_eq, nat_lt, find, option_map, insert, remove, ◌==◌}
-use Rattle.std.specs.List.{slice_get}
-use Rattle.slab.specs.Slab.{Slab, Updates, with_value, get, ContainsKey}
-use Rattle.std.specs.List.Sorted.{IsBinarySearchResult}
-use Rattle.std.specs.Map.{lookup, set_value, remove_entry}
-use Rattle.std.specs.BTreeMap.{is_at, insert_entry}
+use Rattle.cap_asks.proofs.Prelude.{◌≡◌, ℕ, zero, suc, ◌+◌, ◌≤◌, ◌<◌, Bool, true, false, cond, inl, inr, List, [], ◌∷◌, ◌++◌, length, length-append, take, map, refl, sym, ◌∙◌, ap, subst, arith, nat_cmp, get_or, Box, Option, is_some, Some, None, Ok, Err, nat_eq, nat_lt, find, option_map, insert, remove, ◌==◌, slice_get, Slab, Updates, with_value, get, ContainsKey, IsBinarySearchResult, lookup, set_value, remove_entry, is_at, insert_entry, option_map_or, nat_tests, length-map, map_push, take_at, append_cancel_left, length-set_value, set_value_same, searched, slice_get-map, slice_get_read, IsIn, IsRising, length-kept, of_filter, App, AppTable, change_app, add_app, new_app, rising_kept, found_by_number, Account, HeldApp, TakesRoom, remove_app, AreNumbered, AreIndexed, AreBeside, IsLeft, UsesRoom, account_of, is_waiting, waiting_of, put_number, entries_at, held_at, nobody, slot_in}
 use Rattle.std.specs.Box.{with_value as with_boxed}
-use Rattle.std.specs.Option.{option_map_or}
-use Rattle.std.proofs.lemmas.Bool.Decides.{nat_tests}
-use Rattle.std.proofs.lemmas.List.{length-map, map_push, take_at, append_cancel_left}
-use Rattle.std.proofs.lemmas.Map.{length-set_value}
-use Rattle.std.proofs.lemmas.Map.Steps.{set_value_same}
-use Rattle.std.proofs.lemmas.List.Sorted.{searched}
-use Rattle.std.proofs.lemmas.Option.{slice_get-map, slice_get_read}
-use Rattle.cap_base.specs.Members.{IsIn, IsRising}
-use Rattle.cap_base.proofs.lists.Filters.{length-kept}
-use Rattle.cap_base.proofs.lists.Members.{of_filter}
-use Rattle.cap_model.specs.Flat.{App, AppTable, change_app}
-use Rattle.cap_model.specs.Submit.{add_app, new_app}
-use Rattle.cap_model.proofs.lists.Numbered.{rising_kept, found_by_number}
-use Rattle.cap_asks.specs.Accounts.{Account, HeldApp, TakesRoom}
-use Rattle.cap_model.specs.FinishMaster.{remove_app}
-use Rattle.cap_asks.specs.Apps.{AreNumbered, AreIndexed, AreBeside, IsLeft, UsesRoom, account_of, is_waiting, waiting_of, put_number, entries_at, held_at, nobody, slot_in}
 use Rattle.cap_asks.proofs.Entries.{apps_of, accounts_of, account_there, is_number, by_number, none_changed, numbers_rise, some_is, same_number, found_number, low_below, one_changed, one_uses, still_numbered, still_without, app_found, numbered_front, numbered_push, next_absent, table_without, account_left}
 use Rattle.cap_asks.proofs.Slots.{written, updated, looked_at, slot_is, held_set, held_without, held_push, held_back, entries_without, slot_pushed, slot_taken, opened}
 

@@ -1,12 +1,5 @@
 -- Vectors compared and computed, amount by amount.
-use Rattle.std.proofs.Common.{◌≡◌, ℕ, ◌≤◌, ◌<◌, true, List, [], ◌∷◌, zero, suc, refl, arith}
-use Rattle.std.specs.Prelude.{◌==◌, nat_le}
-use Rattle.std.proofs.lemmas.Bool.{and_parts, and_from}
-use Rattle.std.proofs.lemmas.Bool.Decides.{nat_tests}
-use Rattle.std.proofs.lemmas.List.{get_or_past}
-use Rattle.std.proofs.lemmas.List.FromFn.{get_or-map-range_with_len, length-map-range_with_len}
-use Rattle.cap_vector.specs.Vector.{amount, by_amount}
-use Rattle.cap_base.specs.Amounts.{fits}
+use Rattle.cap_base.proofs.Prelude.{◌≡◌, ℕ, ◌≤◌, ◌<◌, true, List, [], ◌∷◌, zero, suc, refl, arith, ◌==◌, nat_le, and_parts, and_from, nat_tests, get_or_past, get_or-map-range_with_len, length-map-range_with_len, amount, by_amount, fits}
 
 -- what fits, amount by amount
 pub fits_amounts : (a b : List ℕ) → fits a b ≡ true → (k : ℕ) → amount a k ≤ amount b k

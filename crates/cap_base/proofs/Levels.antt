@@ -1,14 +1,5 @@
 -- The order of shares, of fullness and of sibling queues is total.
-use Rattle.std.specs.Prelude.{◌≡◌, ℕ, ◌*◌, ◌<◌, max}
-use Rattle.std.specs.Ordering.{nat_cmp, MatchOrdering}
-use Rattle.std.specs.declared.cmp.Ordering.{Ordering}
-use Rattle.std.specs.declared.cmp.Ordering.TheVariants.{Less, Equal, Greater}
-use Rattle.std.specs.Cmp.{IsTotalOrder, nat_cmp_is}
-use Rattle.std.proofs.Common.{arith, refl, sym, ◌∙◌, ap}
-use Rattle.std.proofs.lemmas.Cmp.{nat_cmp_total, nat_list_cmp_total, lists_total, on_total, then_total, ranked}
-use Rattle.std.proofs.Math.Nat.{mul_right_comm, mul-lt-mul_of_pos_right}
-use Rattle.cap_vector.specs.Fullness.{share_cmp, shares_cmp}
-use Rattle.cap_base.specs.Levels.{level_cmp}
+use Rattle.cap_base.proofs.Prelude.{◌≡◌, ℕ, ◌*◌, ◌<◌, max, nat_cmp, MatchOrdering, Ordering, Less, Equal, Greater, IsTotalOrder, nat_cmp_is, arith, refl, sym, ◌∙◌, ap, nat_cmp_total, nat_list_cmp_total, lists_total, on_total, then_total, ranked, mul_right_comm, mul-lt-mul_of_pos_right, share_cmp, shares_cmp, level_cmp}
 
 scaled_rank : (a b k : ℕ) (r : Ordering) → 0 < k → MatchOrdering r (a < b) (a ≡ b) (b < a) → MatchOrdering r (a * k < b * k) (a * k ≡ b * k) (b * k < a * k)
 scaled_rank a b k Less h l = mul-lt-mul_of_pos_right l h

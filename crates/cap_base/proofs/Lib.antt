@@ -1,4 +1,5 @@
 pub mod Amounts
 pub mod Levels
+mod Prelude
 pub mod lists
 pub mod paths

@@ -1,16 +1,5 @@
 -- Reservations that are dropped one after the other.
-use Rattle.std.proofs.Common.{◌≡◌, ℕ, zero, suc, ◌-◌, ◌≤◌, Bool, true, false, cond, List, [], ◌∷◌, length, Some, None, inl, inr, refl, sym, ◌∙◌, ap, subst, arith}
-use Rattle.std.specs.Prelude.{not, filter, find, ◌==◌, ◌&&◌, if◌then◌else◌}
-use Rattle.std.specs.List.{list_any, slice_get}
-use Rattle.std.proofs.lemmas.Bool.Decides.{nat_tests}
-use Rattle.cap_model.specs.Asking.{keep_first}
-use Rattle.cap_model.specs.Bounds.{AreApart}
-use Rattle.cap_model.specs.Flat.{Flat, Reservation, with_reserved}
-use Rattle.cap_base.proofs.lists.Members.{IsIn, found, none_in, of_filter}
-use Rattle.cap_base.proofs.lists.Filters.{length-kept}
-use Rattle.cap_nodes.specs.Loads.{made_after}
-use Rattle.cap_nodes.proofs.Reserved.{is_elsewhere, others_elsewhere}
-use Rattle.cap_commit.specs.ClusterState.{ClusterState}
+use Rattle.cap_commit.proofs.Prelude.{◌≡◌, ℕ, zero, suc, ◌-◌, ◌≤◌, Bool, true, false, cond, List, [], ◌∷◌, length, Some, None, inl, inr, refl, sym, ◌∙◌, ap, subst, arith, not, filter, find, ◌==◌, ◌&&◌, if◌then◌else◌, list_any, slice_get, nat_tests, keep_first, AreApart, Flat, Reservation, with_reserved, IsIn, found, none_in, of_filter, length-kept, made_after, is_elsewhere, others_elsewhere, ClusterState}
 
 -- none of those that pass stay: the others do
 pub keep_none : {A : Type 0} (t : A → Bool) (xs : List A) → keep_first t 0 xs ≡ filter (λ x. not (t x)) xs

@@ -1,33 +1,5 @@
 -- What a cluster keeps where a container ends.
-use Rattle.std.proofs.Common.{◌≡◌, ℕ, ◌+◌, ◌≤◌, Bool, true, false, cond, List, [], ◌∷◌, ◌++◌, length, map, Some, None, refl, sym, ◌∙◌, ap, subst, arith}
-use Rattle.std.specs.Prelude.{IsSome, is_some, ◌==◌, not, find, filter, count_by, if◌then◌else◌}
-use Rattle.std.specs.List.{sum_by}
-use Rattle.std.proofs.lemmas.Bool.Decides.{nat_tests}
-use Rattle.std.proofs.lemmas.List.{append-nil, length-map}
-use Rattle.std.proofs.lemmas.List.Sums.{count_by-le-length, length-filter}
-use Rattle.std.proofs.lemmas.Slice.Eq.{bytes_eq-Decides}
-use Rattle.cap_base.proofs.lists.Tests.{numbers_turned}
-use Rattle.cap_vector.specs.Vector.{amount}
-use Rattle.cap_base.specs.Settings.{QueueRow}
-use Rattle.cap_model.specs.declared.news.Cause.{Cause}
-use Rattle.cap_model.specs.declared.news.End.{End}
-use Rattle.cap_model.specs.Flat.{Flat, App, AppTable, Container, NodeTable, app_at, change_app, Reservation}
-use Rattle.cap_model.specs.Ending.{is_among, with_ends, after_ends, complete}
-use Rattle.cap_model.proofs.lists.Numbered.{rising_kept}
-use Rattle.cap_base.proofs.lists.Members.{IsIn, found, of_filter, each_of, of_each, of_map}
-use Rattle.cap_laws.proofs.calls.Lessening.{change_stands}
-use Rattle.cap_model.proofs.uses.Measures.{counts}
-use Rattle.cap_laws.proofs.calls.Moves.{KeepsApp, AppsChange, ends_change, only_app}
-use Rattle.cap_laws.proofs.uses.Tallies.{count_of, count_changed, ended_amount, same_use, sum_without, used_by}
-use Rattle.cap_tree.specs.Measure.{Measure}
-use Rattle.cap_tree.specs.Queue.{MayGive}
-use Rattle.cap_tree.specs.Count.{zero_count, use_alone}
-use Rattle.cap_tree.proofs.OneUser.{count_where}
-use Rattle.cap_tree.specs.Rows.{Row, lowered_row, queues_of, user_row_at}
-use Rattle.cap_asks.specs.Apps.{HeldApps, UsesRoom, live_of, position_of}
-use Rattle.cap_laws.specs.Reservations.{AreReserved}
-use Rattle.cap_commit.specs.ClusterState.{Parts, IsCluster, IsInLeaf, flat_of, of_cluster}
-use Rattle.cap_laws.proofs.uses.Counting.{count_positive}
+use Rattle.cap_commit.proofs.Prelude.{◌≡◌, ℕ, ◌+◌, ◌≤◌, Bool, true, false, cond, List, [], ◌∷◌, ◌++◌, length, map, Some, None, refl, sym, ◌∙◌, ap, subst, arith, IsSome, is_some, ◌==◌, not, find, filter, count_by, if◌then◌else◌, sum_by, nat_tests, append-nil, length-map, count_by-le-length, length-filter, bytes_eq-Decides, numbers_turned, amount, QueueRow, Cause, End, Flat, App, AppTable, Container, NodeTable, app_at, change_app, Reservation, is_among, with_ends, after_ends, complete, rising_kept, IsIn, found, of_filter, each_of, of_each, of_map, change_stands, counts, KeepsApp, AppsChange, ends_change, only_app, count_of, count_changed, ended_amount, same_use, sum_without, used_by, Measure, MayGive, zero_count, use_alone, count_where, Row, lowered_row, queues_of, user_row_at, HeldApps, UsesRoom, live_of, position_of, AreReserved, Parts, IsCluster, IsInLeaf, flat_of, of_cluster, count_positive}
 use Rattle.cap_commit.proofs.Holding.{leaf_same, still_placed}
 use Rattle.cap_commit.proofs.Moving.{HasMoved, gives, may_give, moved_settings, moved_stays, tied_moved}
 use Rattle.cap_commit.proofs.Owning.{IsOwned, count_for, owned_stands}

@@ -1,7 +1,5 @@
 -- The parts of a cluster are no larger than memory, as the cluster is.
-use Rattle.std.proofs.Common.{ℕ, ◌*◌, ◌<◌, [], ◌∷◌, arith}
-use Rattle.std.specs.Borrow.{RattleType}
-use Rattle.std.specs.Mem.{FitsInMemory}
+use Rattle.cap_commit.proofs.Prelude.{ℕ, ◌*◌, ◌<◌, [], ◌∷◌, arith, RattleType, FitsInMemory, part_fits}
 use denote.Param.{layout, number, param}
 use Rattle.cap_vector.specs.contracts.vector.Amounts as amounts
 use Rattle.cap_model.specs.contracts.ask.Ask as ask
@@ -13,7 +11,6 @@ use Rattle.cap_asks.specs.contracts.apps.Apps as apps
 use Rattle.cap_nodes.specs.contracts.load.Load as load
 use Rattle.cap_nodes.specs.contracts.node.Node as node
 use Rattle.cap_nodes.specs.contracts.nodes.Nodes as nodes
-use Rattle.cap_tree.proofs.Sizes.{part_fits}
 use Rattle.cap_commit.specs.contracts.cluster.Cluster as cluster
 use Rattle.cap_commit.specs.contracts.limits.Limits as limits
 

@@ -1,51 +1,9 @@
 -- A cluster after a grant: what it keeps, and that its use is a sum.
-use Rattle.std.proofs.Common.{◌≡◌, ℕ, ◌+◌, ◌<◌, ◌≤◌, Bool, true, false, cond, List, [], ◌∷◌, ◌++◌, length, length-append, map, Some, None, refl, sym, ◌∙◌, ap, subst, inl, inr, arith}
-use Rattle.std.specs.Prelude.{Option, IsSome, not, ◌==◌, find, filter, if◌then◌else◌}
-use Rattle.std.specs.List.{sum_by}
-use Rattle.std.proofs.lemmas.Bool.{cases_lt}
-use Rattle.std.proofs.lemmas.Bool.Decides.{nat_tests}
-use Rattle.std.proofs.lemmas.List.{get_or_past, length-map}
-use Rattle.std.proofs.lemmas.List.Sums.{sum_by_push, sum_by-le-sum_by}
-use Rattle.std.proofs.lemmas.Slice.Eq.{bytes_eq-Decides}
-use Rattle.cap_vector.specs.Vector.{IsWithin, amount, amount_max, amounts_exchanged, sum_max}
-use Rattle.cap_vector.proofs.AmountLemmas.{amount-exchanged}
-use Rattle.cap_base.specs.Cascade.{holds_of}
-use Rattle.cap_base.specs.Amounts.{fits, part}
-use Rattle.cap_model.specs.Flat.{Flat, App, AppTable, ClusterNode, Container, NodeTable, Reservation, app_at, change_app, node_in}
-use Rattle.cap_model.specs.News.{Grant}
-use Rattle.cap_model.specs.declared.ask.Key.{Key}
-use Rattle.cap_model.specs.declared.proposal.ProposalKind.{ProposalKind}
-use Rattle.cap_model.specs.Sight.{sight_of}
-use Rattle.cap_model.specs.Admission.{NodeProposal, is_grant, reason_of}
-use Rattle.cap_model.specs.Events.{after_grant, launch, news_of, take_one}
-use Rattle.cap_model.specs.RegisterNode.{sum_of_totals}
-use Rattle.cap_model.specs.Uses.{held_on}
-use Rattle.cap_base.proofs.lists.Members.{IsIn, each_of, of_each, found, of_filter, of_map, in_either}
-use Rattle.cap_model.proofs.lists.Numbered.{found_by_number, rising_more}
-use Rattle.cap_laws.proofs.lists.Parts.{part_filter}
-use Rattle.cap_base.proofs.lists.Tests.{not_none, value_of, numbers_turned}
-use Rattle.cap_laws.proofs.calls.Lessening.{change_stands}
-use Rattle.cap_laws.proofs.calls.Moves.{AppsChange, KeepsApp, grant_change, only_app}
-use Rattle.cap_model.proofs.uses.Measures.{counts, counted, use_amount}
-use Rattle.cap_base.proofs.Amounts.{amount_of, fits_amounts}
-use Rattle.cap_laws.proofs.uses.Tallies.{count_changed, count_of, length_used, used_by}
-use Rattle.cap_laws.proofs.uses.UseSums.{if_less, on_some_node, reserved_on_nodes, sum_below, taken}
-use Rattle.cap_tree.specs.Measure.{Measure}
-use Rattle.cap_tree.specs.Queue.{MayGive}
-use Rattle.cap_tree.specs.Count.{use_alone}
-use Rattle.cap_tree.specs.Rows.{Row, applied_row, queues_of, root_use, user_row_at}
-use Rattle.cap_asks.specs.Accounts.{Account}
-use Rattle.cap_asks.specs.Apps.{HasRooms, HeldApps, UsesRoom, live_of, position_of}
-use Rattle.cap_nodes.specs.Tables.{IsSound}
-use Rattle.cap_laws.specs.Reservations.{AreReserved, fits_its_node}
-use Rattle.cap_commit.specs.ClusterState.{Parts, IsCluster, IsInLeaf, IsRowOf, flat_of, of_cluster}
-use Rattle.cap_commit.specs.Admission.{taken_back}
-use Rattle.cap_laws.proofs.uses.Counting.{count_positive}
+use Rattle.cap_commit.proofs.Prelude.{◌≡◌, ℕ, ◌+◌, ◌<◌, ◌≤◌, Bool, true, false, cond, List, [], ◌∷◌, ◌++◌, length, length-append, map, Some, None, refl, sym, ◌∙◌, ap, subst, inl, inr, arith, Option, IsSome, not, ◌==◌, find, filter, if◌then◌else◌, sum_by, cases_lt, nat_tests, get_or_past, length-map, sum_by_push, sum_by-le-sum_by, bytes_eq-Decides, IsWithin, amount, amount_max, amounts_exchanged, sum_max, amount-exchanged, holds_of, fits, part, Flat, App, AppTable, ClusterNode, Container, NodeTable, Reservation, app_at, change_app, node_in, Grant, Key, ProposalKind, sight_of, NodeProposal, is_grant, reason_of, after_grant, launch, news_of, take_one, sum_of_totals, held_on, IsIn, each_of, of_each, found, of_filter, of_map, in_either, found_by_number, rising_more, part_filter, not_none, value_of, numbers_turned, change_stands, AppsChange, KeepsApp, grant_change, only_app, counts, counted, use_amount, amount_of, fits_amounts, count_changed, count_of, length_used, used_by, if_less, on_some_node, reserved_on_nodes, sum_below, taken, Measure, MayGive, use_alone, Row, applied_row, queues_of, root_use, user_row_at, Account, HasRooms, HeldApps, UsesRoom, live_of, position_of, IsSound, AreReserved, fits_its_node, Parts, IsCluster, IsInLeaf, IsRowOf, flat_of, of_cluster, taken_back, count_positive, its_node_there, part_reserved}
 use Rattle.cap_commit.proofs.Granting.{grants}
 use Rattle.cap_commit.proofs.Holding.{leaf_same, still_placed}
 use Rattle.cap_commit.proofs.Moving.{HasMoved, may_give, moved_settings, moved_stays, tied_moved}
 use Rattle.cap_commit.proofs.Owning.{count_for, live_kept, owned_stands}
-use Rattle.cap_laws.proofs.bounds.ReservedNodes.{its_node_there, part_reserved}
 use Rattle.cap_commit.proofs.RowsAt.{row_at}
 use Rattle.cap_commit.proofs.Ties.{in_queue, of_user_in}
 

@@ -1,34 +1,5 @@
 -- What a cluster keeps where a container is granted.
-use Rattle.std.proofs.Common.{◌≡◌, ℕ, ◌+◌, ◌<◌, ◌≤◌, Bool, true, false, cond, List, [], ◌∷◌, ◌++◌, length, map, Some, None, refl, sym, ◌∙◌, ap, inl, inr, arith}
-use Rattle.std.specs.Prelude.{Option, IsSome, is_some, not, ◌==◌, ◌&&◌, find, filter}
-use Rattle.std.specs.Option.{option_map_or}
-use Rattle.std.specs.List.{sum_by}
-use Rattle.std.proofs.lemmas.Bool.{and_parts, cases_lt}
-use Rattle.std.proofs.lemmas.Bool.Decides.{nat_tests}
-use Rattle.std.proofs.lemmas.List.{get_or_past}
-use Rattle.std.proofs.lemmas.List.Sums.{sum_by-cons, sum_by_push}
-use Rattle.cap_vector.specs.Vector.{Fits, amount, zeros}
-use Rattle.cap_vector.proofs.AmountLemmas.{amount-zeros}
-use Rattle.cap_base.specs.Amounts.{fits}
-use Rattle.cap_model.specs.Flat.{Flat, App, Container, Reservation, app_at, node_in}
-use Rattle.cap_model.specs.Sight.{Sight, sight_of, seen_app}
-use Rattle.cap_model.specs.Admission.{NodeProposal, IsAdmissible, NeedsOf, is_grant, reason_of}
-use Rattle.cap_model.specs.declared.proposal.ProposalKind.{ProposalKind}
-use Rattle.cap_model.specs.Bounds.{AreApart}
-use Rattle.cap_laws.proofs.choice.Proposers.{held_for}
-use Rattle.cap_laws.proofs.choice.Reasons.{rejected_exactly}
-use Rattle.cap_base.proofs.lists.Members.{IsIn, found, of_filter, of_map, none_in}
-use Rattle.cap_base.proofs.lists.Filters.{filter_whole}
-use Rattle.cap_base.proofs.lists.Tests.{value_of}
-use Rattle.cap_model.proofs.uses.Measures.{standing, counts, counted, live_part, reserved_part, same_counts, use_amount}
-use Rattle.cap_base.proofs.Amounts.{fits_amounts}
-use Rattle.cap_laws.proofs.uses.Tallies.{Test, count_of, length_used, used_by}
-use Rattle.cap_nodes.specs.Tables.{free_on}
-use Rattle.cap_tree.specs.Measure.{Measure}
-use Rattle.cap_tree.specs.Count.{use_alone}
-use Rattle.cap_tree.proofs.OneUser.{count_where}
-use Rattle.cap_commit.specs.ClusterState.{Parts, IsCluster, flat_of}
-use Rattle.cap_commit.specs.Admission.{own_reservation, taken_back}
+use Rattle.cap_commit.proofs.Prelude.{◌≡◌, ℕ, ◌+◌, ◌<◌, ◌≤◌, Bool, true, false, cond, List, [], ◌∷◌, ◌++◌, length, map, Some, None, refl, sym, ◌∙◌, ap, inl, inr, arith, Option, IsSome, is_some, not, ◌==◌, ◌&&◌, find, filter, option_map_or, sum_by, and_parts, cases_lt, nat_tests, get_or_past, sum_by-cons, sum_by_push, Fits, amount, zeros, amount-zeros, fits, Flat, App, Container, Reservation, app_at, node_in, Sight, sight_of, seen_app, NodeProposal, IsAdmissible, NeedsOf, is_grant, reason_of, ProposalKind, AreApart, held_for, rejected_exactly, IsIn, found, of_filter, of_map, none_in, filter_whole, value_of, standing, counts, counted, live_part, reserved_part, same_counts, use_amount, fits_amounts, Test, count_of, length_used, used_by, free_on, Measure, use_alone, count_where, Parts, IsCluster, flat_of, own_reservation, taken_back}
 use Rattle.cap_commit.proofs.Moving.{HasMoved, of_test}
 use Rattle.cap_commit.proofs.Seen.{free_seen, node_there, own_is, reservation_is_seen}
 

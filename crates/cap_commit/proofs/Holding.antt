@@ -1,49 +1,9 @@
 -- What a cluster keeps, after the changes that calls make.
-use Rattle.std.proofs.Common.{◌≡◌, ℕ, ◌≤◌, Bool, true, false, cond, List, [], ◌∷◌, ◌++◌, length, map, Some, None, refl, sym, ◌∙◌, ap, subst, inl, inr, arith}
-use Rattle.std.specs.Prelude.{◌==◌, IsSome, not, bytes_eq, nat_eq, find, filter, is_some, if◌then◌else◌}
-use Rattle.std.specs.List.{All, list_any, starts_with}
-use Rattle.std.specs.Option.{option_map_or}
-use Rattle.std.proofs.lemmas.Bool.{not-true}
-use Rattle.std.proofs.lemmas.Bool.Decides.{nat_tests}
-use Rattle.std.proofs.lemmas.List.{append-nil, length-append, length-map, map-id}
-use Rattle.std.proofs.lemmas.Slice.Eq.{bytes_eq-Decides}
-use Rattle.cap_vector.specs.Vector.{amount}
-use Rattle.cap_base.specs.Limits.{applications_max, resources_max}
-use Rattle.cap_base.specs.Settings.{QueueRow}
-use Rattle.cap_model.specs.Flat.{Flat, App, AppTable, Container, NodeTable, app_at, with_reserved, containers_of, change_app, Reservation}
-use Rattle.cap_model.specs.declared.news.Cause.{Cause}
-use Rattle.cap_laws.specs.EngineLaws.{container_numbers}
-use Rattle.cap_model.specs.Ending.{after_ends, with_ends, without_containers}
-use Rattle.cap_model.specs.FinishMaster.{after_finish_master, remove_app}
-use Rattle.cap_model.specs.Submit.{submit_refusal, new_app, add_app}
-use Rattle.cap_model.specs.Bounds.{IsLeaf}
-use Rattle.cap_base.specs.Members.{IsRising}
-use Rattle.cap_base.proofs.lists.Members.{IsIn, found, in_either, of_filter, each_of, of_each, of_map}
-use Rattle.cap_base.proofs.lists.Filters.{filter_none, length-kept}
-use Rattle.cap_model.proofs.lists.Numbered.{find_others, find_with_more, rising_to_high}
-use Rattle.cap_base.proofs.lists.Sums.{one_where}
-use Rattle.cap_laws.proofs.calls.Lessening.{IsSite, change_stands}
-use Rattle.cap_model.proofs.uses.Measures.{counts}
-use Rattle.cap_laws.proofs.calls.Moves.{KeepsApp, AppsChange, only_app}
-use Rattle.cap_laws.proofs.calls.Registering.{may_enter}
-use Rattle.cap_laws.proofs.bounds.Formed.{unrefused_leaf}
-use Rattle.cap_laws.proofs.uses.Tallies.{HoldsSame, count_of, count_changed, same_use, change_holds, coming_holds, going_holds}
-use Rattle.cap_tree.specs.Measure.{Measure}
-use Rattle.cap_tree.specs.Queue.{IsUnused, MayLeave}
-use Rattle.cap_vector.proofs.AmountLemmas.{amount-zeros}
-use Rattle.cap_tree.specs.Count.{zero_count, one_app}
-use Rattle.cap_tree.specs.Rows.{Row, IsAt, entered_row, left_row, queues_of, user_row_at}
-use Rattle.cap_tree.proofs.Listings.{any_kept, path_kept}
-use Rattle.cap_asks.specs.Accounts.{Account, HeldApp}
-use Rattle.cap_asks.specs.Apps.{HeldApps, UsesRoom, IsEntered, IsLeft, account_of, live_of, position_of}
-use Rattle.cap_laws.specs.Reservations.{AreReserved}
-use Rattle.cap_commit.specs.ClusterState.{Parts, IsCluster, IsInLeaf, flat_of, of_cluster}
-use Rattle.cap_laws.proofs.uses.Counting.{count_entered, count_without, only_one, unused}
+use Rattle.cap_commit.proofs.Prelude.{◌≡◌, ℕ, ◌≤◌, Bool, true, false, cond, List, [], ◌∷◌, ◌++◌, length, map, Some, None, refl, sym, ◌∙◌, ap, subst, inl, inr, arith, ◌==◌, IsSome, not, bytes_eq, nat_eq, find, filter, is_some, if◌then◌else◌, All, list_any, starts_with, option_map_or, not-true, nat_tests, append-nil, length-map, map-id, bytes_eq-Decides, amount, applications_max, resources_max, QueueRow, Flat, App, AppTable, Container, NodeTable, app_at, with_reserved, containers_of, change_app, Reservation, Cause, container_numbers, after_ends, with_ends, without_containers, after_finish_master, remove_app, submit_refusal, new_app, add_app, IsLeaf, IsRising, IsIn, found, in_either, of_filter, each_of, of_each, of_map, filter_none, length-kept, find_others, find_with_more, rising_to_high, one_where, IsSite, change_stands, counts, KeepsApp, AppsChange, only_app, may_enter, unrefused_leaf, HoldsSame, count_of, count_changed, same_use, change_holds, coming_holds, going_holds, Measure, IsUnused, MayLeave, amount-zeros, zero_count, one_app, Row, IsAt, entered_row, left_row, queues_of, user_row_at, any_kept, path_kept, Account, HeldApp, HeldApps, UsesRoom, IsEntered, IsLeft, account_of, live_of, position_of, AreReserved, Parts, IsCluster, IsInLeaf, flat_of, of_cluster, count_entered, count_without, only_one, unused, none_reserved_yet, Limits}
+use Rattle.std.proofs.lemmas.List.{length-append}
 use Rattle.cap_commit.proofs.Owning.{IsOwned, IsReservedFor, count_for, live_kept, none_left, none_of, none_reserved, owned_after, owned_stands, sites_owned}
-use Rattle.cap_laws.proofs.bounds.ReservedNodes.{none_reserved_yet}
 use Rattle.cap_commit.proofs.RowsAt.{row_at, still_at}
 use Rattle.cap_commit.proofs.Moving.{HasOneMore, enters, leaves, may_leave, moved_settings, moved_stays, tied_moved}
-use Rattle.cap_commit.specs.declared.limits.Limits.{Limits}
 use Rattle.cap_commit.proofs.Ties.{ChangesSettings, of_user_in, unused_tied, tied_changed, tied_stays}
 
 -- a change of the queues that keeps their paths keeps which of them are leaves

@@ -1,35 +1,5 @@
 -- What a cluster keeps where room is reserved on a node.
-use Rattle.std.proofs.Common.{◌≡◌, ℕ, ◌+◌, ◌<◌, ◌≤◌, Bool, true, false, cond, List, [], ◌∷◌, ◌++◌, length, map, Some, None, refl, sym, ◌∙◌, ap, subst, inl, inr, arith}
-use Rattle.std.specs.Prelude.{IsSome, ◌==◌, find}
-use Rattle.std.specs.List.{sum_by}
-use Rattle.std.proofs.lemmas.Bool.{cases_lt}
-use Rattle.std.proofs.lemmas.List.{get_or_past}
-use Rattle.std.proofs.lemmas.List.Sums.{sum_by_push, sum_by-le-sum_by}
-use Rattle.std.proofs.lemmas.Slice.Eq.{bytes_eq-Decides}
-use Rattle.cap_vector.specs.Vector.{IsWithin, amount, amounts_exchanged, sum_max, zeros}
-use Rattle.cap_vector.proofs.AmountLemmas.{amount-exchanged}
-use Rattle.cap_base.specs.Amounts.{fits}
-use Rattle.cap_model.specs.Flat.{Flat, App, Container, NodeTable, Reservation, app_at, node_in}
-use Rattle.cap_model.specs.Sight.{Sight, sight_of}
-use Rattle.cap_model.specs.Admission.{NodeProposal, IsAdmissible, NeedsOf, is_grant, reason_of}
-use Rattle.cap_model.specs.declared.proposal.ProposalKind.{ProposalKind}
-use Rattle.cap_model.specs.Events.{add_reservation, after_reserve}
-use Rattle.cap_laws.proofs.choice.Reasons.{rejected_exactly}
-use Rattle.cap_laws.proofs.bounds.ReservedAfter.{reserve_apart}
-use Rattle.cap_base.proofs.lists.Members.{IsIn, each_of, of_each, found, in_either}
-use Rattle.cap_model.proofs.uses.Measures.{counts, counted, use_amount}
-use Rattle.cap_laws.proofs.uses.Tallies.{Test, count_of, length_used, used_by}
-use Rattle.cap_laws.proofs.uses.UseSums.{if_less}
-use Rattle.cap_tree.specs.Measure.{Measure}
-use Rattle.cap_tree.specs.Queue.{MayGive}
-use Rattle.cap_tree.specs.Count.{use_alone}
-use Rattle.cap_tree.specs.Rows.{Row, applied_row, queues_of, root_use, user_row_at}
-use Rattle.cap_tree.proofs.OneUser.{count_where}
-use Rattle.cap_asks.specs.Apps.{position_of}
-use Rattle.cap_laws.specs.Reservations.{AreReserved, fits_its_node}
-use Rattle.cap_commit.specs.ClusterState.{Parts, IsCluster, IsInLeaf, IsRowOf, flat_of, of_cluster}
-use Rattle.cap_laws.proofs.uses.Counting.{count_positive}
-use Rattle.cap_nodes.specs.Tables.{IsSound}
+use Rattle.cap_commit.proofs.Prelude.{◌≡◌, ℕ, ◌+◌, ◌<◌, ◌≤◌, Bool, true, false, cond, List, [], ◌∷◌, ◌++◌, length, map, Some, None, refl, sym, ◌∙◌, ap, subst, inl, inr, arith, IsSome, ◌==◌, find, sum_by, cases_lt, get_or_past, sum_by_push, sum_by-le-sum_by, bytes_eq-Decides, IsWithin, amount, amounts_exchanged, sum_max, zeros, amount-exchanged, fits, Flat, App, Container, NodeTable, Reservation, app_at, node_in, Sight, sight_of, NodeProposal, IsAdmissible, NeedsOf, is_grant, reason_of, ProposalKind, add_reservation, after_reserve, rejected_exactly, reserve_apart, IsIn, each_of, of_each, found, in_either, counts, counted, use_amount, Test, count_of, length_used, used_by, if_less, Measure, MayGive, use_alone, Row, applied_row, queues_of, root_use, user_row_at, count_where, position_of, AreReserved, fits_its_node, Parts, IsCluster, IsInLeaf, IsRowOf, flat_of, of_cluster, count_positive, IsSound}
 use Rattle.cap_commit.proofs.Granted.{live_few, reserved_few}
 use Rattle.cap_commit.proofs.Granting.{its_app, none_active, past_where, zero_where}
 use Rattle.cap_commit.proofs.Holding.{leaf_same, still_placed}

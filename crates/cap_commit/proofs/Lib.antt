@@ -1,4 +1,5 @@
 pub mod Owning
+mod Prelude
 pub mod RowsAt
 pub mod Ties
 pub mod Moving

@@ -1,41 +1,7 @@
 -- The limits of queues and users, as the tree tests them and as the sight has them.
-use Rattle.std.proofs.Common.{◌≡◌, ℕ, ◌+◌, ◌-◌, Bool, true, false, cond, List, [], ◌∷◌, ◌++◌, length, map, Some, None, refl, sym, ◌∙◌, ap, subst, inl, inr, arith}
-use Rattle.std.specs.Prelude.{Option, is_none, unwrap_or, option_map, not, ◌&&◌, nat_lt, filter, find, position, bytes_eq}
-use Rattle.std.specs.Option.{option_map_or, option_or}
-use Rattle.std.specs.List.{list_all, prefix_len}
-use Rattle.std.proofs.lemmas.Bool.Decides.{nat_tests}
-use Rattle.std.proofs.lemmas.List.{ext_get_or}
-use Rattle.cap_vector.specs.Vector.{amount, amounts_exchanged, less, plus, zeros}
-use Rattle.cap_vector.proofs.AmountLemmas.{amount-exchanged, amount-less, amount-zeros, length-less}
-use Rattle.cap_base.specs.Cascade.{earliest, holds_of}
-use Rattle.cap_base.specs.Amounts.{fits, times}
-use Rattle.cap_base.specs.Settings.{QueueRow}
-use Rattle.cap_model.specs.Flat.{Flat, App, Reservation, app_at}
-use Rattle.cap_base.specs.Paths.{is_under}
-use Rattle.cap_model.specs.Uses.{queue_use, user_use}
-use Rattle.cap_model.specs.Sight.{Sight, QueueSight, AppSight, sight_of, queue_sight, app_sight, seen_app, seen_queue, queues_to}
-use Rattle.cap_model.specs.declared.proposal.Reason.{Reason}
-use Rattle.cap_model.specs.declared.proposal.Reason.TheVariants.{OverMaximum, OverUser}
-use Rattle.cap_model.specs.Admission.{NodeProposal, is_grant, is_reserved_for, node_reservation, leaf_path, user_name, use_after, stays_in_maximum, stays_in_maxima, stays_in_user_limit, broken_level}
-use Rattle.cap_base.specs.LimitTests.{fits_maximum, fits_user_limit}
-use Rattle.cap_base.proofs.lists.Members.{IsIn, each_of}
-use Rattle.cap_base.proofs.lists.Filters.{find_mapped_at, map_twice}
-use Rattle.cap_base.proofs.lists.Tests.{same_test}
-use Rattle.cap_base.proofs.Amounts.{amounts_fit, fits_amounts}
-use Rattle.cap_tree.specs.Measure.{Measure}
-use Rattle.cap_tree.specs.Queue.{use_of, user_row}
+use Rattle.cap_commit.proofs.Prelude.{◌≡◌, ℕ, ◌+◌, ◌-◌, Bool, true, false, cond, List, [], ◌∷◌, ◌++◌, length, map, Some, None, refl, sym, ◌∙◌, ap, subst, inl, inr, arith, Option, is_none, unwrap_or, option_map, not, ◌&&◌, nat_lt, filter, find, position, bytes_eq, option_map_or, option_or, list_all, prefix_len, nat_tests, ext_get_or, amount, amounts_exchanged, less, plus, zeros, amount-exchanged, amount-less, amount-zeros, length-less, earliest, holds_of, fits, times, QueueRow, Flat, App, Reservation, app_at, is_under, queue_use, user_use, Sight, QueueSight, AppSight, sight_of, queue_sight, app_sight, seen_app, seen_queue, queues_to, Reason, OverMaximum, OverUser, NodeProposal, is_grant, is_reserved_for, node_reservation, leaf_path, user_name, use_after, stays_in_maximum, stays_in_maxima, stays_in_user_limit, broken_level, fits_maximum, fits_user_limit, IsIn, each_of, find_mapped_at, map_twice, same_test, amounts_fit, fits_amounts, Measure, use_of, user_row, item_at, path_at, over_limit, Row, AreRows, IsAt, queues_of, rows_to, settings_of_row, OverLimit, Maximum, User, Parts, IsCluster, IsRowOf, flat_of, limit_tests, size_tests, taken_back, user_counts, HeldApp, account_of}
 use Rattle.cap_tree.specs.Queue as tree
-use Rattle.cap_tree.specs.Spot.{item_at, path_at}
-use Rattle.cap_tree.specs.Limits.{over_limit}
 use Rattle.cap_tree.specs.Limits as limits
-use Rattle.cap_tree.specs.Rows.{Row, AreRows, IsAt, queues_of, rows_to, settings_of_row}
-use Rattle.cap_tree.specs.declared.over_limit.OverLimit.{OverLimit}
-use Rattle.cap_tree.specs.declared.over_limit.OverLimit.TheVariants.{Maximum, User}
-use Rattle.cap_commit.specs.ClusterState.{Parts, IsCluster, IsRowOf, flat_of}
-use Rattle.cap_commit.specs.Admission.{limit_tests, size_tests, taken_back}
-use Rattle.cap_tree.specs.QueueLaws.{user_counts}
-use Rattle.cap_asks.specs.Accounts.{HeldApp}
-use Rattle.cap_asks.specs.Apps.{account_of}
 use Rattle.cap_commit.proofs.RowsAt.{IsRowAt, row_at, found_row}
 use Rattle.cap_commit.proofs.Holding.{placed_at, position_is}
 

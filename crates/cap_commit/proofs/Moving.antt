@@ -1,29 +1,5 @@
 -- The rows of a tree keep what the flat cluster counts where a part of what a user counts in a leaf moves.
-use Rattle.std.proofs.Common.{◌≡◌, ℕ, ◌+◌, ◌-◌, ◌<◌, ◌≤◌, Bool, true, false, List, length, map, Some, None, refl, sym, ◌∙◌, ap, subst, inl, inr, arith}
-use Rattle.std.specs.Prelude.{bytes_eq, ◌&&◌}
-use Rattle.std.specs.List.{All}
-use Rattle.std.specs.Option.{option_map_or}
-use Rattle.std.proofs.lemmas.Bool.{cases_lt}
-use Rattle.std.proofs.lemmas.List.{ext_get_or, get_or_past, length-replicate}
-use Rattle.std.proofs.lemmas.Slice.Eq.{bytes_eq-Decides}
-use Rattle.cap_vector.specs.Vector.{amount, amounts_exchanged, zeros}
-use Rattle.cap_vector.proofs.AmountLemmas.{is_exchanged}
-use Rattle.cap_model.specs.Flat.{Flat}
-use Rattle.cap_base.specs.Paths.{is_under}
-use Rattle.cap_base.proofs.lists.Members.{IsIn, each_of}
-use Rattle.cap_base.proofs.lists.Sums.{one_where}
-use Rattle.cap_laws.proofs.uses.Tallies.{Test, count_of, used_by, length_used}
-use Rattle.cap_base.proofs.lists.Tests.{bytes_turned}
-use Rattle.cap_tree.specs.Measure.{Measure}
-use Rattle.cap_tree.specs.Spot.{item_at}
-use Rattle.cap_tree.specs.Count.{Count, IsPart, of_count, zero_count, one_app, use_alone}
-use Rattle.cap_tree.specs.Queue.{Queue, MayGive, MayLeave, count_in, moved_above, moved_at, user_row}
-use Rattle.cap_tree.specs.QueueLaws.{zero_counts, user_counts}
-use Rattle.cap_tree.specs.Rows.{Row, IsAt, moved_row, queues_of, user_row_at}
-use Rattle.cap_tree.proofs.Listings.{settings_stay}
-use Rattle.cap_base.proofs.paths.Paths.{under_itself}
-use Rattle.cap_tree.proofs.OneUser.{count_where, moved_own, some_row}
-use Rattle.cap_commit.specs.ClusterState.{IsRowOf, of_cluster}
+use Rattle.cap_commit.proofs.Prelude.{◌≡◌, ℕ, ◌+◌, ◌-◌, ◌<◌, ◌≤◌, Bool, true, false, List, length, map, Some, None, refl, sym, ◌∙◌, ap, subst, inl, inr, arith, bytes_eq, ◌&&◌, All, option_map_or, cases_lt, ext_get_or, get_or_past, length-replicate, bytes_eq-Decides, amount, amounts_exchanged, zeros, is_exchanged, Flat, is_under, IsIn, each_of, one_where, Test, count_of, used_by, length_used, bytes_turned, Measure, item_at, Count, IsPart, of_count, zero_count, one_app, use_alone, Queue, MayGive, MayLeave, count_in, moved_above, moved_at, user_row, zero_counts, user_counts, Row, IsAt, moved_row, queues_of, user_row_at, settings_stay, under_itself, count_where, moved_own, some_row, IsRowOf, of_cluster}
 use Rattle.cap_commit.proofs.RowsAt.{still_at}
 use Rattle.cap_commit.proofs.Ties.{changed_path, changed_position, changed_row, changed_rows, in_queue, of_user_in}
 

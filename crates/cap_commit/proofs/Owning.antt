@@ -1,17 +1,5 @@
 -- The live containers of active applications, and how many each has.
-use Rattle.std.proofs.Common.{◌≡◌, ℕ, Bool, true, false, cond, List, [], ◌∷◌, length, Option, Some, None, refl, sym, ◌∙◌, ap, subst, inl, inr, arith}
-use Rattle.std.specs.Prelude.{IsSome, ◌==◌, filter, count_by}
-use Rattle.std.specs.List.{All}
-use Rattle.std.proofs.lemmas.List.Sums.{length-filter}
-use Rattle.cap_model.specs.Flat.{Flat, App, Container, Reservation, app_at, containers_of}
-use Rattle.cap_model.specs.declared.news.Cause.{Cause}
-use Rattle.cap_model.specs.Ending.{after_ends}
-use Rattle.cap_base.proofs.lists.Members.{IsIn, in_filter, each_of, of_each}
-use Rattle.cap_laws.proofs.calls.Lessening.{IsSite, change_stands}
-use Rattle.cap_model.proofs.uses.Measures.{standing}
-use Rattle.cap_laws.proofs.calls.Moves.{ends_change}
-use Rattle.cap_asks.specs.Accounts.{Account}
-use Rattle.cap_asks.specs.Apps.{UsesRoom, live_of}
+use Rattle.cap_commit.proofs.Prelude.{◌≡◌, ℕ, Bool, true, false, cond, List, [], ◌∷◌, length, Option, Some, None, refl, sym, ◌∙◌, ap, subst, inl, inr, arith, IsSome, ◌==◌, filter, count_by, All, length-filter, Flat, App, Container, Reservation, app_at, containers_of, Cause, after_ends, IsIn, in_filter, each_of, of_each, IsSite, change_stands, standing, ends_change, Account, UsesRoom, live_of}
 
 -- how many live containers an application has
 abbrev pub count_for : ℕ → List Container → ℕ

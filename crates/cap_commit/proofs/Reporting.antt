@@ -1,19 +1,5 @@
 -- What is reported of a queue of the tree is what the flat cluster says of it.
-use Rattle.std.proofs.Common.{◌≡◌, ℕ, ◌≤◌, Bool, true, List, [], ◌∷◌, Some, refl, sym, ◌∙◌, ap, subst, inl}
-use Rattle.std.specs.Prelude.{not, is_some, count_by}
-use Rattle.cap_base.specs.Limits.{applications_max}
-use Rattle.cap_model.specs.Flat.{Flat, App, queue_at}
-use Rattle.cap_base.specs.Paths.{is_under, root_path}
-use Rattle.cap_base.specs.Listing.{IsListedFromRoot}
-use Rattle.cap_model.specs.QueueCalls.{queue_report}
-use Rattle.cap_model.specs.Uses.{queue_use}
-use Rattle.cap_base.proofs.lists.Members.{IsIn, each_of}
-use Rattle.cap_tree.specs.Spot.{item_at, path_at}
-use Rattle.cap_tree.specs.Queue.{Queue}
-use Rattle.cap_tree.specs.Rows.{Row, AreRows, IsAt, queues_of, root_use, settings_of_row, has_children, is_running}
-use Rattle.cap_model.specs.declared.report.QueueReport.{QueueReport}
-use Rattle.cap_commit.specs.ClusterState.{Parts, IsCluster, IsRowOf, flat_of}
-use Rattle.cap_laws.proofs.bounds.KeptReservations.{report_is}
+use Rattle.cap_commit.proofs.Prelude.{◌≡◌, ℕ, ◌≤◌, Bool, true, List, [], ◌∷◌, Some, refl, sym, ◌∙◌, ap, subst, inl, not, is_some, count_by, applications_max, Flat, App, queue_at, is_under, root_path, IsListedFromRoot, queue_report, queue_use, IsIn, each_of, item_at, path_at, Queue, Row, AreRows, IsAt, queues_of, root_use, settings_of_row, has_children, is_running, QueueReport, Parts, IsCluster, IsRowOf, flat_of, report_is}
 use Rattle.cap_commit.proofs.RowsAt.{IsRowAt, row_at, found_row, active_few}
 
 some_same : {A : Type 0} (x y : A) → Some x ≡ Some y → x ≡ y

@@ -1,20 +1,5 @@
 -- The row of a queue, by its path and by its position.
-use Rattle.std.proofs.Common.{◌≡◌, ℕ, ◌≤◌, Bool, true, false, cond, List, [], ◌∷◌, Some, map, refl, sym, ◌∙◌, ap, subst, inl, inr, arith}
-use Rattle.std.specs.Prelude.{bytes_eq, find, is_some, ◌||◌}
-use Rattle.std.specs.List.{list_any}
-use Rattle.std.proofs.lemmas.Slice.Eq.{bytes_eq-Decides}
-use Rattle.std.proofs.lemmas.List.Sums.{count_by-le-length}
-use Rattle.cap_base.specs.Settings.{QueueRow}
-use Rattle.cap_base.specs.Limits.{applications_max}
-use Rattle.cap_model.specs.Flat.{App}
-use Rattle.cap_base.specs.Paths.{is_under}
-use Rattle.cap_base.specs.Trees.{HasDistinctPaths}
-use Rattle.cap_base.proofs.lists.Members.{IsIn, each_of, in_map}
-use Rattle.cap_base.proofs.lists.Tests.{bytes_itself}
-use Rattle.cap_tree.specs.Spot.{HoldsOfItem, IsPosition, item_at, path_at}
-use Rattle.cap_tree.specs.Rows.{Row, AreRows, IsAt, queues_of, settings_of_row, active_in}
-use Rattle.cap_tree.proofs.RowPaths.{at_position}
-use Rattle.cap_commit.specs.ClusterState.{Parts, IsCluster, IsRowOf, flat_of}
+use Rattle.cap_commit.proofs.Prelude.{◌≡◌, ℕ, ◌≤◌, Bool, true, false, cond, List, [], ◌∷◌, Some, map, refl, sym, ◌∙◌, ap, subst, inl, inr, arith, bytes_eq, find, is_some, ◌||◌, list_any, bytes_eq-Decides, count_by-le-length, QueueRow, applications_max, App, is_under, HasDistinctPaths, IsIn, each_of, in_map, bytes_itself, HoldsOfItem, IsPosition, item_at, path_at, Row, AreRows, IsAt, queues_of, settings_of_row, active_in, at_position, Parts, IsCluster, IsRowOf, flat_of}
 
 -- of paths that are all others, each is found
 or_no : (a b : Bool) → a || b ≡ false → (a ≡ false) × (b ≡ false)

@@ -1,30 +1,5 @@
 -- What the sight of a cluster shows of applications, nodes and reservations is what its tables have.
-use Rattle.std.proofs.Common.{◌≡◌, ℕ, ◌-◌, Bool, true, false, cond, List, length, Some, None, refl, sym, ◌∙◌, ap, subst, arith}
-use Rattle.std.specs.Prelude.{◌↔◌, IsTrue, Option, IsSome, is_some, option_map, option_and_then, ◌==◌, ◌&&◌, find, filter, map, nat_le, nat_lt, count_by}
-use Rattle.std.proofs.lemmas.Bool.Decides.{nat_tests}
-use Rattle.cap_vector.specs.Vector.{Fits, less}
-use Rattle.cap_base.specs.Cascade.{holds_of}
-use Rattle.cap_base.specs.Amounts.{fits}
-use Rattle.cap_model.specs.Asks.{Ask}
-use Rattle.cap_base.specs.Members.{IsRising}
-use Rattle.cap_model.specs.Flat.{Flat, App, ClusterNode, Reservation, app_at, node_at, is_for, reservation_on}
-use Rattle.cap_model.specs.Uses.{held_on}
-use Rattle.cap_model.specs.Sight.{AppSight, NodeSight, sight_of, app_sight, node_sight, seen_app, seen_node, still_wanted}
-use Rattle.cap_model.specs.Admission.{NodeProposal, is_grant, is_wanted, node_reservation, proposed_ask, fits_free, fits_total}
-use Rattle.cap_base.proofs.lists.Members.{IsIn, found, each_of, in_filter}
-use Rattle.cap_base.proofs.lists.Filters.{find_mapped_at}
-use Rattle.cap_model.proofs.lists.Numbered.{found_by_number, rising_kept}
-use Rattle.cap_base.proofs.lists.Sums.{sum_by_map}
-use Rattle.cap_base.proofs.lists.Tests.{value_of, not_none, same_test}
-use Rattle.cap_base.proofs.Amounts.{amounts_fit, fits_amounts}
-use Rattle.cap_laws.proofs.choice.Proposers.{seen_is}
-use Rattle.cap_laws.proofs.bounds.Wanting.{nodes_on, on_nodes}
-use Rattle.cap_nodes.specs.Loads.{Load}
-use Rattle.cap_nodes.specs.Tables.{IsLoadIn, free_on}
-use Rattle.cap_laws.specs.Reservations.{AreReserved, fits_its_node}
-use Rattle.cap_commit.specs.ClusterState.{Parts, IsCluster, flat_of}
-use Rattle.cap_commit.specs.Admission.{load_sight, own_reservation}
-use Rattle.cap_laws.proofs.bounds.ReservedNodes.{its_node_there}
+use Rattle.cap_commit.proofs.Prelude.{◌≡◌, ℕ, ◌-◌, Bool, true, false, cond, List, length, Some, None, refl, sym, ◌∙◌, ap, subst, arith, ◌↔◌, IsTrue, Option, IsSome, is_some, option_map, option_and_then, ◌==◌, ◌&&◌, find, filter, map, nat_le, nat_lt, count_by, nat_tests, Fits, less, holds_of, fits, Ask, IsRising, Flat, App, ClusterNode, Reservation, app_at, node_at, is_for, reservation_on, held_on, AppSight, NodeSight, sight_of, app_sight, node_sight, seen_app, seen_node, still_wanted, NodeProposal, is_grant, is_wanted, node_reservation, proposed_ask, fits_free, fits_total, IsIn, found, each_of, in_filter, find_mapped_at, found_by_number, rising_kept, sum_by_map, value_of, not_none, same_test, amounts_fit, fits_amounts, seen_is, nodes_on, on_nodes, Load, IsLoadIn, free_on, AreReserved, fits_its_node, Parts, IsCluster, flat_of, load_sight, own_reservation, its_node_there}
 
 module _ {K : ℕ} (p : Parts K) (h : IsCluster p) where
   abbrev cluster : Flat K

@@ -1,7 +1,5 @@
 -- The parts of a cluster are no larger than memory, where there are not too many kinds of resource.
-use Rattle.std.proofs.Common.{ℕ, ◌+◌, ◌*◌, ◌≤◌, ◌<◌, arith}
-use Rattle.std.specs.Prelude.{max}
-use Rattle.cap_base.specs.Limits.{resources_max}
+use Rattle.cap_commit.proofs.Prelude.{ℕ, ◌+◌, ◌*◌, ◌≤◌, ◌<◌, arith, max, resources_max}
 
 -- rounding up to a boundary of 8 bytes adds less than 8, to one of 4 less than 4, to one of 1 byte nothing
 pub record Rounds (u v w : ℕ → ℕ) : Type 0 where

@@ -1,25 +1,5 @@
 -- The rows of a tree keep what the flat cluster counts, as calls change both.
-use Rattle.std.proofs.Common.{◌≡◌, ℕ, Bool, true, false, List, [], ◌∷◌, Option, Some, None, map, refl, sym, ◌∙◌, ap, subst}
-use Rattle.std.specs.Prelude.{bytes_eq, find, ◌&&◌, if◌then◌else◌}
-use Rattle.std.specs.Option.{option_map_or}
-use Rattle.std.specs.List.{All}
-use Rattle.cap_vector.specs.Vector.{amount}
-use Rattle.cap_vector.proofs.AmountLemmas.{amount-zeros}
-use Rattle.cap_base.specs.Settings.{QueueRow}
-use Rattle.cap_model.specs.Flat.{Flat}
-use Rattle.cap_model.specs.Refresh.{refreshed_queue}
-use Rattle.cap_base.specs.Paths.{is_under}
-use Rattle.cap_base.proofs.lists.Members.{each_of, of_each, of_map}
-use Rattle.cap_base.proofs.lists.Tests.{kept_if}
-use Rattle.cap_laws.proofs.calls.Refreshing.{refreshed_path}
-use Rattle.cap_laws.proofs.uses.Tallies.{Test, count_of, used_by}
-use Rattle.cap_tree.specs.Measure.{Measure}
-use Rattle.cap_tree.specs.Queue.{Queue, IsUnused, of_user, with_running, with_settings}
-use Rattle.cap_tree.specs.UserLaws.{no_user_counts}
-use Rattle.cap_tree.specs.Rows.{Row, changed_at, queues_of, settings_of_row, with_row_of_path, with_state}
-use Rattle.cap_tree.proofs.Listings.{same_path, set_running, state_in_settings}
-use Rattle.cap_commit.specs.ClusterState.{IsRowOf, of_cluster}
-use Rattle.cap_laws.proofs.uses.Idle.{idle_use}
+use Rattle.cap_commit.proofs.Prelude.{◌≡◌, ℕ, Bool, true, false, List, [], ◌∷◌, Option, Some, None, map, refl, sym, ◌∙◌, ap, subst, bytes_eq, find, ◌&&◌, if◌then◌else◌, option_map_or, All, amount, amount-zeros, QueueRow, Flat, refreshed_queue, is_under, each_of, of_each, of_map, kept_if, refreshed_path, Test, count_of, used_by, Measure, Queue, IsUnused, of_user, with_running, with_settings, no_user_counts, Row, changed_at, queues_of, settings_of_row, with_row_of_path, with_state, same_path, set_running, state_in_settings, IsRowOf, of_cluster, idle_use}
 
 -- what counts for a queue, and for a user in a leaf
 abbrev pub in_queue : List ℕ → Test

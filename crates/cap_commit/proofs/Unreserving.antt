@@ -1,28 +1,8 @@
 -- What a cluster keeps where a reservation is dropped.
-use Rattle.std.proofs.Common.{◌≡◌, ℕ, zero, suc, ◌<◌, ◌≤◌, Bool, true, false, cond, List, [], ◌∷◌, length, map, Some, None, get_or, refl, sym, ◌∙◌, ap, subst, inl, inr, arith}
-use Rattle.std.specs.Prelude.{IsSome, is_some, ◌==◌, find, filter, not}
-use Rattle.std.specs.List.{remove}
-use Rattle.std.proofs.lemmas.List.Sums.{sum_by-remove}
-use Rattle.std.proofs.lemmas.Slice.Eq.{bytes_eq-Decides}
-use Rattle.cap_vector.specs.Vector.{amount}
-use Rattle.cap_base.specs.Settings.{Settings}
-use Rattle.cap_model.specs.Flat.{Flat, App, NodeTable, Reservation, with_reserved}
-use Rattle.cap_base.proofs.lists.Members.{IsIn, found, each_of, of_each}
-use Rattle.cap_model.proofs.uses.Measures.{counts, counted, use_amount}
-use Rattle.cap_tree.specs.Measure.{Measure}
-use Rattle.cap_tree.specs.Queue.{MayGive}
-use Rattle.cap_tree.specs.Count.{zero_count, use_alone}
-use Rattle.cap_tree.proofs.OneUser.{count_where}
-use Rattle.cap_tree.specs.Rows.{Row, lowered_row, queues_of, user_row_at}
-use Rattle.cap_asks.specs.Apps.{position_of}
-use Rattle.cap_model.specs.Bounds.{AreApart}
-use Rattle.cap_nodes.proofs.Reserved.{is_elsewhere, others_elsewhere}
-use Rattle.cap_commit.specs.ClusterState.{Parts, IsCluster, IsInLeaf, flat_of, of_cluster}
-use Rattle.cap_laws.proofs.uses.Counting.{count_positive}
+use Rattle.cap_commit.proofs.Prelude.{◌≡◌, ℕ, zero, suc, ◌<◌, ◌≤◌, Bool, true, false, cond, List, [], ◌∷◌, length, map, Some, None, get_or, refl, sym, ◌∙◌, ap, subst, inl, inr, arith, IsSome, is_some, ◌==◌, find, filter, not, remove, sum_by-remove, bytes_eq-Decides, amount, Settings, Flat, App, NodeTable, Reservation, with_reserved, IsIn, found, each_of, of_each, counts, counted, use_amount, Measure, MayGive, zero_count, use_alone, count_where, Row, lowered_row, queues_of, user_row_at, position_of, AreApart, is_elsewhere, others_elsewhere, Parts, IsCluster, IsInLeaf, flat_of, of_cluster, count_positive, part_reserved, part_removed}
 use Rattle.cap_commit.proofs.Holding.{leaf_same, still_placed}
 use Rattle.cap_commit.proofs.Moving.{HasMoved, gives, may_give, moved_settings, moved_stays, tied_moved}
 use Rattle.cap_commit.proofs.Owning.{IsReservedFor, owned_stands}
-use Rattle.cap_laws.proofs.bounds.ReservedNodes.{part_reserved, part_removed}
 use Rattle.cap_commit.proofs.RowsAt.{row_at}
 use Rattle.cap_commit.proofs.Ties.{of_user_in}
 

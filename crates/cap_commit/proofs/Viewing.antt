@@ -1,18 +1,6 @@
 -- The reply in full, and room for it.
-use Rattle.std.proofs.Common.{◌≡◌, ℕ, List, refl, sym, ap, subst, ◌∙◌}
-use Rattle.std.specs.Prelude.{Option, Some, length, unwrap_or, option_map}
-use Rattle.std.specs.Option.{option_map_or}
-use Rattle.cap_model.specs.Asks.{Ask}
-use Rattle.cap_model.specs.News.{AllocateReply}
-use Rattle.cap_model.specs.declared.replies.AllocateNumbers.{AllocateNumbers}
-use Rattle.cap_model.specs.declared.request.Request.{Request}
-use Rattle.cap_model.specs.declared.reply.ReplyWith.{ReplyWith}
+use Rattle.cap_commit.proofs.Prelude.{◌≡◌, ℕ, List, refl, sym, ap, subst, ◌∙◌, Option, Some, length, unwrap_or, option_map, option_map_or, Ask, AllocateReply, AllocateNumbers, Request, ReplyWith, Flat, App, AppTable, app_in, nothing_told, IfAllocate, NewsRoom, reported_of, full_reply, HasNumbers, HasRoomForReplies, no_news, news_most, reports_most, IsNoAllocate, some_room, other_room, kept_of}
 use Rattle.cap_model.specs.declared.reply.ReplyWith.TheVariants as Reply
-use Rattle.cap_model.specs.Flat.{Flat, App, AppTable, app_in}
-use Rattle.cap_model.specs.Allocate.{nothing_told}
-use Rattle.cap_model.specs.Reporting.{IfAllocate, NewsRoom, reported_of, full_reply, HasNumbers, HasRoomForReplies, no_news, news_most, reports_most, IsNoAllocate}
-use Rattle.cap_laws.proofs.telling.Replying.{some_room, other_room}
-use Rattle.cap_asks.specs.Apps.{kept_of}
 
 module _ {K : ℕ} (flat : Flat K) where
   pub viewed : (numbers : AllocateNumbers) (reply : ReplyWith K AllocateNumbers) (table : AppTable) (result : AllocateReply) → reply ≡ Reply.Allocate numbers → table ≡ flat.apps → HasNumbers flat reply

@@ -1,8 +1,5 @@
 -- The paths above a path.
-use Rattle.std.proofs.Common.{◌≡◌, ℕ, suc, ◌+◌, ◌<◌, List, [], ◌∷◌, length, take, Bool, true, false, Option, Some, None, refl, sym, ◌∙◌, arith, add-one, length-take-le}
-use Rattle.std.proofs.lemmas.Option.{same_Some, some_pair_parts}
-use Rattle.cap_base.specs.properties.Keys.{last_dot, dot_or, is_dot, parts_at_last_dot, parts_round}
-use Rattle.cap_base.specs.properties.Queues.{above}
+use Rattle.cap_config.proofs.Prelude.{◌≡◌, ℕ, suc, ◌+◌, ◌<◌, List, [], ◌∷◌, length, take, Bool, true, false, Option, Some, None, refl, sym, ◌∙◌, arith, add-one, length-take-le, same_Some, some_pair_parts, last_dot, dot_or, is_dot, parts_at_last_dot, parts_round, above}
 use Rattle.cap_config.proofs.Children.{dotless_cons}
 
 above_no : (bytes : List ℕ) → last_dot bytes ≡ None → above bytes ≡ []

@@ -1,9 +1,5 @@
 -- Byte strings in a list.
-use Rattle.std.proofs.Common.{◌≡◌, ℕ, List, [], ◌∷◌, ◌++◌, Bool, true, false, cond, Option, Some, None, refl, ap, ◌∙◌}
-use Rattle.std.specs.Prelude.{◌||◌, is_some}
-use Rattle.std.specs.Str.{bytes_eq}
-use Rattle.std.proofs.lemmas.List.Folds.{list_any-append}
-use Rattle.cap_base.specs.properties.Seen.{contains_bytes}
+use Rattle.cap_config.proofs.Prelude.{◌≡◌, ℕ, List, [], ◌∷◌, ◌++◌, Bool, true, false, cond, Option, Some, None, refl, ap, ◌∙◌, ◌||◌, is_some, bytes_eq, list_any-append, contains_bytes}
 
 or-false : (b : Bool) → (b || false) ≡ b
 or-false true = refl

@@ -1,14 +1,5 @@
 -- Each text has one answer.
-use Rattle.std.proofs.Common.{◌≡◌, ℕ, List, Option, Some, None, Result, Ok, Err, refl}
-use Rattle.std.specs.Prelude.{◌↔◌, IsSome}
-use Rattle.std.specs.Str.Lines.{lines}
-use Rattle.cap_base.specs.Settings.{Settings}
-use Rattle.cap_base.specs.declared.properties.entry.Entry.{Entry}
-use Rattle.cap_base.specs.declared.properties.fault.ConfigFault.{ConfigFault}
-use Rattle.cap_base.specs.properties.Entries.{read_lines}
-use Rattle.cap_base.specs.properties.Tests.{whole_fault}
-use Rattle.cap_base.specs.properties.Rows.{settings_of}
-use Rattle.cap_base.specs.properties.First.{first_fault, fault_after, settings_in, settings_after, unless_fault}
+use Rattle.cap_config.proofs.Prelude.{◌≡◌, ℕ, List, Option, Some, None, Result, Ok, Err, refl, ◌↔◌, IsSome, lines, Settings, Entry, ConfigFault, read_lines, whole_fault, settings_of, first_fault, fault_after, settings_in, settings_after, unless_fault}
 
 one_of : (fault : Option ConfigFault) (settings : Settings) → (fault ≡ None) ↔ IsSome (unless_fault fault settings)
 one_of (Some fault) settings = (λ h. absurd (cc h), λ h. absurd (cc h))

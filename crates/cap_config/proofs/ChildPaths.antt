@@ -1,12 +1,7 @@
 -- The path of a queue below another, put together in an array of dots.
-use Rattle.std.proofs.Common.{◌≡◌, ℕ, zero, suc, ◌+◌, ◌-◌, ◌<◌, ◌≤◌, List, [], ◌∷◌, ◌++◌, length, take, drop, replicate, true, refl, ap, ◌∙◌, arith}
-use Rattle.std.proofs.lemmas.Bool.Decides.{nat_tests}
-use Rattle.cap_base.specs.Texts.{is_text}
-use Rattle.std.proofs.Math.Seq.{take-append-add}
-use Rattle.std.proofs.lemmas.List.{append_assoc, drop-replicate, length-append, length-replicate}
-use Rattle.std.proofs.lemmas.Slice.{take-put_mid}
+use Rattle.cap_config.proofs.Prelude.{◌≡◌, ℕ, zero, suc, ◌+◌, ◌-◌, ◌<◌, ◌≤◌, List, [], ◌∷◌, ◌++◌, length, take, drop, replicate, true, refl, ap, ◌∙◌, arith, nat_tests, is_text, take-append-add, drop-replicate, length-replicate, take-put_mid, child}
+use Rattle.std.proofs.lemmas.List.{append_assoc, length-append}
 use borrow.Rule.Slice.PartMut.{put_mid}
-use Rattle.cap_base.specs.properties.Queues.{child}
 
 one : (n : ℕ) → 0 < n → take {A = ℕ} 1 (replicate n 46) ≡ 46 ∷ []
 one zero h = absurd (omega arith)

@@ -1,19 +1,5 @@
 -- The path of a queue below another, and how deep it is.
-use Rattle.std.proofs.Common.{◌≡◌, ℕ, suc, ◌+◌, List, [], ◌∷◌, ◌++◌, append_assoc, length, take, drop, Bool, true, false, cond, Option, Some, None, refl, sym, ap, ◌∙◌, subst, inl, inr, arith, add-one}
-use Rattle.std.specs.Prelude.{count_by}
-use Rattle.std.specs.List.{list_all}
-use Rattle.std.proofs.lemmas.Bool.{eqb-true}
-use Rattle.std.proofs.lemmas.Bool.Decides.{nat_tests}
-use Rattle.std.proofs.lemmas.List.Sums.{sum_by-cons, sum_by-append}
-use Rattle.std.proofs.lemmas.List.Splits.{length-slice_split}
-use Rattle.std.proofs.lemmas.Option.{same_Some, some_pair_parts}
-use Rattle.std.proofs.Math.Seq.{take-append_seam}
-use Rattle.cap_base.specs.Paths.{is_child_of}
-use Rattle.cap_base.proofs.paths.Paths.{IsUnder, has_dot, before_no_dot, its_child}
-use Rattle.cap_base.specs.properties.Keys.{last_dot, dot_or, is_dot, is_name, is_name_byte, parts_at_last_dot, parts_round}
-use Rattle.cap_base.specs.properties.Queues.{child}
-use Rattle.cap_base.specs.properties.Tests.{level}
-use Rattle.cap_base.specs.properties.Values.{is_name_under}
+use Rattle.cap_config.proofs.Prelude.{◌≡◌, ℕ, suc, ◌+◌, List, [], ◌∷◌, ◌++◌, append_assoc, length, take, drop, Bool, true, false, cond, Option, Some, None, refl, sym, ap, ◌∙◌, subst, inl, inr, arith, add-one, count_by, list_all, eqb-true, nat_tests, sum_by-cons, sum_by-append, length-slice_split, same_Some, some_pair_parts, take-append_seam, is_child_of, IsUnder, has_dot, before_no_dot, its_child, last_dot, dot_or, is_dot, is_name, is_name_byte, parts_at_last_dot, parts_round, child, level, is_name_under}
 use Rattle.cap_config.proofs.Found.{both}
 
 -- a path, cut at its last dot

@@ -1,7 +1,5 @@
 -- The last dot.
-use Rattle.std.proofs.Common.{◌≡◌, ℕ, zero, suc, ◌+◌, ◌-◌, ◌<◌, ◌≤◌, List, [], ◌∷◌, length, get_or, take, drop, true, Some, None, refl, arith, add-one}
-use Rattle.cap_text.proofs.Cuts.{rest_all}
-use Rattle.cap_base.specs.properties.Keys.{last_dot, is_dot, parts_at_last_dot}
+use Rattle.cap_config.proofs.Prelude.{◌≡◌, ℕ, zero, suc, ◌+◌, ◌-◌, ◌<◌, ◌≤◌, List, [], ◌∷◌, length, get_or, take, drop, true, Some, None, refl, arith, add-one, rest_all, last_dot, is_dot, parts_at_last_dot}
 
 pub last_dot_here : (bytes : List ℕ) (i : ℕ) → i < length bytes → last_dot (drop (suc i) bytes) ≡ None → is_dot (get_or bytes i 0) ≡ true → last_dot bytes ≡ Some i
 last_dot_here [] i h none dot = absurd (omega arith)

@@ -1,13 +1,5 @@
 -- Amounts that are more than others, amount by amount.
-use Rattle.std.proofs.Common.{◌≡◌, ℕ, ◌+◌, ◌<◌, ◌≤◌, List, get_or, true, false, ltb, refl, sym, ap, ◌∙◌, arith}
-use Rattle.std.specs.List.{range_with_len}
-use Rattle.std.proofs.lemmas.Bool.{false_from_ne_true}
-use Rattle.std.proofs.lemmas.Bool.Decides.{nat_tests}
-use Rattle.std.proofs.lemmas.List.Folds.{list_any_at, list_any_none}
-use Rattle.std.proofs.lemmas.List.FromFn.{get_or-range_with_len, get_or-map-range_with_len}
-use Rattle.cap_base.specs.Limits.{resources}
-use Rattle.cap_vector.specs.Vector.{by_amount}
-use Rattle.cap_base.specs.properties.Tests.{exceeds}
+use Rattle.cap_config.proofs.Prelude.{◌≡◌, ℕ, ◌+◌, ◌<◌, ◌≤◌, List, get_or, true, false, ltb, refl, sym, ap, ◌∙◌, arith, range_with_len, false_from_ne_true, nat_tests, list_any_at, list_any_none, get_or-range_with_len, get_or-map-range_with_len, resources, by_amount, exceeds}
 
 -- one amount of all that a function gives
 pub amount_of_all : (f : ℕ → ℕ) (k : ℕ) → k < resources → get_or (by_amount resources f) k 0 ≡ f k

@@ -1,30 +1,5 @@
 -- The line and the kind of a first fault.
-use Rattle.std.proofs.Common.{◌≡◌, ℕ, suc, ◌+◌, ◌≤◌, List, [], ◌∷◌, ◌++◌, length, Bool, true, false, cond, leb, max, min, Option, Some, None, Result, Ok, Err, refl, subst, arith}
-use Rattle.std.specs.Prelude.{◌≢◌, ◌==◌, find, is_none, IfSome}
-use Rattle.std.specs.List.{list_all, slice_split, onto_first}
-use Rattle.std.specs.Option.{option_map}
-use Rattle.std.specs.Str.Lines.{lines, lines_of_parts}
-use Rattle.std.proofs.lemmas.Bool.Decides.{nat_tests}
-use Rattle.std.proofs.lemmas.List.Folds.{list_all-append}
-use Rattle.std.proofs.lemmas.List.Splits.{length-slice_split}
-use Rattle.cap_base.specs.declared.properties.entry.Entry.{Entry}
-use Rattle.cap_base.specs.declared.properties.key.Key.{Key}
-use Rattle.cap_base.specs.declared.properties.value.Value.{Value}
-use Rattle.cap_base.specs.declared.properties.setting.Setting.{Setting}
-use Rattle.cap_base.specs.declared.properties.setting.Setting.TheVariants.{Queues, MinimumMemory, MinimumVcores, MinimumGpu, MaximumMemory, MaximumVcores, MaximumGpu}
-use Rattle.cap_vector.specs.Vector.{amount_max}
-use Rattle.cap_base.specs.declared.properties.fault.ConfigFault.{ConfigFault}
-use Rattle.cap_base.specs.declared.properties.fault.ConfigFaultKind.{ConfigFaultKind}
-use Rattle.cap_base.specs.declared.properties.fault.ConfigFaultKind.TheVariants.{Repeated, BadValue, NoSuchQueue, OverParent, GuaranteeOverMaximum, TooManyQueues, TooDeep, NoChild, NoMemory}
-use Rattle.cap_base.specs.properties.Fault.{fault_at}
-use Rattle.cap_base.specs.properties.Keys.{key_of, root}
-use Rattle.cap_base.specs.properties.Seen.{contains_bytes}
-use Rattle.cap_base.specs.properties.Values.{value_of}
-use Rattle.cap_base.specs.properties.Queues.{entry_for, same_setting}
-use Rattle.cap_base.specs.properties.Entries.{entry_of, with_value, with_key, with_parts, line_parts, read_after, read_lines, and_then, is_passed_over, key_text}
-use Rattle.cap_base.specs.properties.Tests.{line_where, cluster_entry, line_or_zero, pair_line, lesser, allocation_line, lists_none, no_child_line, is_astray, lists_deep, listed_by, line_past, is_over_maximum, is_over_parent, or_else, or_fault, shape_fault, whole_fault}
-use Rattle.cap_base.specs.properties.First.{first_fault, fault_after}
-use Rattle.cap_config.specs.Laws.{FaultsAreInLines, LinesAreFew, FaultsAreOfText}
+use Rattle.cap_config.proofs.Prelude.{◌≡◌, ℕ, suc, ◌+◌, ◌≤◌, List, [], ◌∷◌, ◌++◌, length, Bool, true, false, cond, leb, max, min, Option, Some, None, Result, Ok, Err, refl, subst, arith, ◌≢◌, ◌==◌, find, is_none, IfSome, list_all, slice_split, onto_first, option_map, lines, lines_of_parts, nat_tests, list_all-append, length-slice_split, Entry, Key, Value, Setting, Queues, MinimumMemory, MinimumVcores, MinimumGpu, MaximumMemory, MaximumVcores, MaximumGpu, amount_max, ConfigFault, ConfigFaultKind, Repeated, BadValue, NoSuchQueue, OverParent, GuaranteeOverMaximum, TooManyQueues, TooDeep, NoChild, NoMemory, fault_at, key_of, root, contains_bytes, value_of, entry_for, same_setting, entry_of, with_value, with_key, with_parts, line_parts, read_after, read_lines, and_then, is_passed_over, key_text, line_where, cluster_entry, line_or_zero, pair_line, lesser, allocation_line, lists_none, no_child_line, is_astray, lists_deep, listed_by, line_past, is_over_maximum, is_over_parent, or_else, or_fault, shape_fault, whole_fault, first_fault, fault_after, FaultsAreInLines, LinesAreFew, FaultsAreOfText}
 use Rattle.cap_config.proofs.Found.{both, found_has}
 
 -- the entries are of the first n lines

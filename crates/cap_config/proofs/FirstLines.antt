@@ -1,14 +1,6 @@
 -- The first line that passes a test, entry by entry.
-use Rattle.std.proofs.Common.{◌≡◌, ℕ, suc, ◌+◌, ◌<◌, ◌≤◌, List, ◌∷◌, length, get_or, drop, drop-cons, Bool, true, false, ltb, Option, Some, None, refl, sym, ap, ◌∙◌, add-one}
-use Rattle.cap_base.specs.declared.properties.entry.Entry.{Entry}
-use Rattle.std.proofs.lemmas.List.{drop_all}
-use Rattle.std.specs.Prelude.{is_none}
-use Rattle.std.specs.Option.{option_copied}
+use Rattle.cap_config.proofs.Prelude.{◌≡◌, ℕ, suc, ◌+◌, ◌<◌, ◌≤◌, List, ◌∷◌, length, get_or, drop, drop-cons, Bool, true, false, ltb, Option, Some, None, refl, sym, ap, ◌∙◌, add-one, Entry, drop_all, is_none, option_copied, Queues, root, entry_for, line_where, line_past, listed_by, no_child_line, lists_none}
 use denote.Ref.{Bor}
-use Rattle.cap_base.specs.declared.properties.setting.Setting.TheVariants.{Queues}
-use Rattle.cap_base.specs.properties.Keys.{root}
-use Rattle.cap_base.specs.properties.Queues.{entry_for}
-use Rattle.cap_base.specs.properties.Tests.{line_where, line_past, listed_by, no_child_line, lists_none}
 
 here_first : (test : Entry → Bool) (entries : List Entry) (i : ℕ) (entry : Entry) → i < length entries → entry ≡ get_or entries i entry →
     drop i entries ≡ entry ∷ drop (i + 1) entries

@@ -1,16 +1,5 @@
 -- The first fault of a text, from its lines and from its shape.
-use Rattle.std.proofs.Common.{◌≡◌, ℕ, List, Option, Some, None, Result, Ok, Err, refl, ap, subst}
-use Rattle.std.specs.Str.Lines.{lines}
-use Rattle.std.proofs.lemmas.Option.{same_Some}
-use Rattle.cap_base.specs.declared.properties.entry.Entry.{Entry}
-use Rattle.cap_base.specs.declared.properties.fault.ConfigFault.{ConfigFault}
-use Rattle.cap_base.specs.declared.properties.fault.ConfigFaultKind.{ConfigFaultKind}
-use Rattle.cap_base.specs.declared.properties.fault.ConfigFaultKind.TheVariants.{BadValue, NoSuchQueue, OverParent, GuaranteeOverMaximum, TooManyQueues, TooDeep, NoChild, NoMemory}
-use Rattle.cap_base.specs.properties.Fault.{FailsBy}
-use Rattle.cap_base.specs.properties.Entries.{read_lines}
-use Rattle.cap_base.specs.properties.Tests.{or_else, or_fault, shape_fault, allocation_line, no_child_line, no_such_queue_line, too_deep_line, too_many_line, over_maximum_line, over_parent_line, whole_fault}
-use Rattle.cap_base.specs.properties.Rows.{settings_of}
-use Rattle.cap_base.specs.properties.First.{fault_after, first_fault, AnswersFault, settings_in, settings_after, unless_fault}
+use Rattle.cap_config.proofs.Prelude.{◌≡◌, ℕ, List, Option, Some, None, Result, Ok, Err, refl, ap, subst, lines, same_Some, Entry, ConfigFault, ConfigFaultKind, BadValue, NoSuchQueue, OverParent, GuaranteeOverMaximum, TooManyQueues, TooDeep, NoChild, NoMemory, FailsBy, read_lines, or_else, or_fault, shape_fault, allocation_line, no_child_line, no_such_queue_line, too_deep_line, too_many_line, over_maximum_line, over_parent_line, whole_fault, settings_of, fault_after, first_fault, AnswersFault, settings_in, settings_after, unless_fault}
 use Rattle.cap_config.proofs.NextLine.{fails_after}
 
 pub early_by_line : (text : List ℕ) (fault : ConfigFault) → read_lines (lines text) ≡ Err fault → first_fault text ≡ Some fault

@@ -1,16 +1,5 @@
 -- Capacities fit in a text with no fault.
-use Rattle.std.proofs.Common.{◌≡◌, ℕ, List, true, false, Option, Some, None, Ok, sym, ap, ◌∙◌}
-use Rattle.std.specs.Str.{bytes_eq}
-use Rattle.std.specs.Str.Lines.{lines}
-use Rattle.cap_base.specs.declared.properties.entry.Entry.{Entry}
-use Rattle.cap_base.specs.declared.properties.fault.ConfigFault.{ConfigFault}
-use Rattle.cap_base.specs.declared.properties.fault.ConfigFaultKind.TheVariants.{OverParent}
-use Rattle.cap_base.specs.properties.Keys.{root}
-use Rattle.cap_base.specs.properties.Seen.{contains_bytes}
-use Rattle.cap_base.specs.properties.Values.{is_name_under}
-use Rattle.cap_base.specs.properties.Queues.{names_below, child, guaranteed, maximum}
-use Rattle.cap_base.specs.properties.Tests.{over_parent_line, exceeds, exceeds_limit, guaranteed_below, whole_fault, shape_fault, or_else, or_fault}
-use Rattle.cap_base.specs.properties.Entries.{read_lines}
+use Rattle.cap_config.proofs.Prelude.{◌≡◌, ℕ, List, true, false, Option, Some, None, Ok, sym, ap, ◌∙◌, bytes_eq, lines, Entry, ConfigFault, OverParent, root, contains_bytes, is_name_under, names_below, child, guaranteed, maximum, over_parent_line, exceeds, exceeds_limit, guaranteed_below, whole_fault, shape_fault, or_else, or_fault, read_lines}
 use Rattle.cap_config.proofs.Kept.{lines_kept}
 use Rattle.cap_config.proofs.Found.{under_path, among_has}
 use Rattle.cap_config.proofs.Children.{child_parts, name_no_dot}

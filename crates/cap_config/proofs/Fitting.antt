@@ -1,18 +1,5 @@
 -- Capacities of a text with no fault fit.
-use Rattle.std.proofs.Common.{◌≡◌, ℕ, List, Bool, true, false, cond, not, Option, Some, None, refl, sym, ap, ◌∙◌, arith, subst}
-use Rattle.std.specs.Prelude.{◌&&◌}
-use Rattle.std.specs.Str.{bytes_eq}
-use Rattle.std.proofs.lemmas.Bool.{not-true}
-use Rattle.cap_base.specs.Limits.{resources}
-use Rattle.cap_vector.specs.Vector.{zeros}
-use Rattle.cap_vector.specs.AmountLaws.{amount-zeros}
-use Rattle.cap_base.specs.declared.properties.entry.Entry.{Entry}
-use Rattle.cap_base.specs.declared.properties.value.Value.{Value}
-use Rattle.cap_base.specs.declared.properties.value.Value.TheVariants.{Names, Amounts}
-use Rattle.cap_base.specs.declared.properties.setting.Setting.TheVariants.{Queues, Capacity, MaximumCapacity}
-use Rattle.cap_base.specs.properties.Keys.{root, parts_at_last_dot}
-use Rattle.cap_base.specs.properties.Queues.{entry_for, is_entry_for, is_path_at, same_setting, names_below, names_or_none, names_in_value, guaranteed, maximum, amounts_at, amounts_or, or_zero}
-use Rattle.cap_base.specs.properties.Tests.{exceeds, exceeds_limit, is_over_limit, is_over_maximum, over_maximum_line, is_over_parts, guaranteed_below, is_over_above, is_over_parent, over_parent_line}
+use Rattle.cap_config.proofs.Prelude.{◌≡◌, ℕ, List, Bool, true, false, cond, not, Option, Some, None, refl, sym, ap, ◌∙◌, arith, subst, ◌&&◌, bytes_eq, not-true, resources, zeros, amount-zeros, Entry, Value, Names, Amounts, Queues, Capacity, MaximumCapacity, root, parts_at_last_dot, entry_for, is_entry_for, is_path_at, same_setting, names_below, names_or_none, names_in_value, guaranteed, maximum, amounts_at, amounts_or, or_zero, exceeds, exceeds_limit, is_over_limit, is_over_maximum, over_maximum_line, is_over_parts, guaranteed_below, is_over_above, is_over_parent, over_parent_line}
 use Rattle.cap_config.proofs.Exceeding.{exceeds_not}
 use Rattle.cap_config.proofs.Sums.{none_below}
 use Rattle.cap_config.proofs.Above.{parent_is}

@@ -1,29 +1,5 @@
 -- What is known of the entry that is found for a queue.
-use Rattle.std.proofs.Common.{◌≡◌, ℕ, List, [], ◌∷◌, Bool, true, false, cond, not, eqb, Option, Some, None, refl, subst, ap, suc, ◌∙◌, ◌+◌, ◌<◌, ◌≤◌, length, length-append, get_or, ltb, leb, arith}
-use Rattle.std.specs.Prelude.{find, ◌&&◌, ◌||◌, if◌then◌else◌, ◌==◌}
-use Rattle.std.specs.List.{list_all}
-use Rattle.std.specs.Option.{option_map}
-use Rattle.std.specs.Str.{bytes_eq}
-use Rattle.std.proofs.lemmas.Option.{same_Some}
-use Rattle.std.proofs.lemmas.Slice.Eq.{bytes_eq-Decides}
-use Rattle.std.proofs.lemmas.Bool.Decides.{nat_tests}
-use Rattle.std.proofs.lemmas.List.Folds.{list_all-append}
-use Rattle.std.proofs.lemmas.List.Sums.{AllPass-from_list_all}
-use Rattle.std.proofs.lemmas.Bool.{eqb-true, not-true}
-use Rattle.cap_vector.specs.Vector.{amount_max}
-use Rattle.cap_base.specs.Limits.{applications_max, factor_max}
-use Rattle.cap_base.specs.Texts.{is_text, is_graphic}
-use Rattle.cap_base.specs.declared.properties.entry.Entry.{Entry}
-use Rattle.cap_base.specs.declared.properties.value.Value.{Value}
-use Rattle.cap_base.specs.declared.properties.value.Value.TheVariants.{Names, Number}
-use Rattle.cap_base.specs.declared.properties.setting.Setting.TheVariants.{Queues, MaximumApplications, UserLimitFactor}
-use Rattle.cap_base.specs.declared.properties.setting.Setting.{Setting}
-use Rattle.cap_base.specs.properties.Values.{is_name_under, are_new}
-use Rattle.cap_base.specs.properties.Seen.{contains_bytes}
-use Rattle.cap_base.specs.properties.Queues.{setting_number, child, entry_for, is_entry_for, is_path_at, same_setting, names_below, names_or_none, names_in_value}
-use Rattle.cap_base.specs.properties.Tests.{cluster_entry, number_or, number_in, line_where, too_deep_line, lists_deep, is_deep, level}
-use Rattle.cap_base.specs.properties.Rows.{factor}
-use Rattle.cap_config.specs.Bounds.{most_of, is_kept, is_bounded, are_bounded, are_under}
+use Rattle.cap_config.proofs.Prelude.{◌≡◌, ℕ, List, [], ◌∷◌, Bool, true, false, cond, not, eqb, Option, Some, None, refl, subst, ap, suc, ◌∙◌, ◌+◌, ◌<◌, ◌≤◌, length, length-append, get_or, ltb, leb, arith, find, ◌&&◌, ◌||◌, if◌then◌else◌, ◌==◌, list_all, option_map, bytes_eq, same_Some, bytes_eq-Decides, nat_tests, list_all-append, AllPass-from_list_all, eqb-true, not-true, amount_max, applications_max, factor_max, is_text, is_graphic, Entry, Value, Names, Number, Queues, MaximumApplications, UserLimitFactor, Setting, is_name_under, are_new, contains_bytes, setting_number, child, entry_for, is_entry_for, is_path_at, same_setting, names_below, names_or_none, names_in_value, cluster_entry, number_or, number_in, line_where, too_deep_line, lists_deep, is_deep, level, factor, most_of, is_kept, is_bounded, are_bounded, are_under}
 
 pub same_bytes : (a b : List ℕ) → bytes_eq a b ≡ true → a ≡ b
 same_bytes a b h = (bytes_eq-Decides a b).0 h

@@ -1,25 +1,5 @@
 -- The values of a text keep their bounds.
-use Rattle.std.proofs.Common.{◌≡◌, ℕ, ◌≤◌, List, [], ◌∷◌, ◌++◌, Bool, true, false, cond, leb, Option, Some, None, Result, Ok, Err, refl, sym, ap, subst, arith, ◌+◌}
-use Rattle.std.specs.Prelude.{◌&&◌, option_and_then}
-use Rattle.std.specs.List.{list_all}
-use Rattle.std.proofs.lemmas.Option.{same_Some}
-use Rattle.std.proofs.lemmas.List.Folds.{list_all-append}
-use Rattle.std.proofs.lemmas.Bool.Decides.{nat_tests}
-use Rattle.cap_vector.specs.Vector.{amount_max, is_within}
-use Rattle.cap_base.specs.Limits.{applications_max, factor_max}
-use Rattle.cap_base.specs.declared.properties.entry.Entry.{Entry}
-use Rattle.cap_base.specs.declared.properties.key.Key.{Key}
-use Rattle.cap_base.specs.declared.properties.value.Value.{Value}
-use Rattle.cap_base.specs.declared.properties.value.Value.TheVariants.{Names, Amounts, Number, Running}
-use Rattle.cap_base.specs.declared.properties.setting.Setting.{Setting}
-use Rattle.cap_base.specs.declared.properties.setting.Setting.TheVariants.{Queues, Capacity, MaximumCapacity, UserLimitFactor, State, MaximumApplications, MinimumMemory, MinimumVcores, MinimumGpu, MaximumMemory, MaximumVcores, MaximumGpu}
-use Rattle.cap_base.specs.declared.properties.fault.ConfigFault.{ConfigFault}
-use Rattle.cap_base.specs.properties.Keys.{key_of}
-use Rattle.cap_base.specs.properties.Seen.{contains_bytes}
-use Rattle.cap_base.specs.properties.Values.{digits_max, value_at, value_of, is_name_under, as_names, as_amounts, number_within, state_of, names_for, names_of, are_new, amounts_of, amounts_in, in_brackets, pieces_of, resource}
-use Rattle.cap_text.specs.Numbers.{number_of}
-use Rattle.cap_base.specs.properties.Entries.{entry_of, with_value, with_key, with_parts, line_parts, read_after, read_lines, and_then, is_passed_over, key_text}
-use Rattle.cap_config.specs.Bounds.{most_of, has_each, is_kept, is_bounded, are_bounded}
+use Rattle.cap_config.proofs.Prelude.{◌≡◌, ℕ, ◌≤◌, List, [], ◌∷◌, ◌++◌, Bool, true, false, cond, leb, Option, Some, None, Result, Ok, Err, refl, sym, ap, subst, arith, ◌+◌, ◌&&◌, option_and_then, list_all, same_Some, list_all-append, nat_tests, amount_max, is_within, applications_max, factor_max, Entry, Key, Value, Names, Amounts, Number, Running, Setting, Queues, Capacity, MaximumCapacity, UserLimitFactor, State, MaximumApplications, MinimumMemory, MinimumVcores, MinimumGpu, MaximumMemory, MaximumVcores, MaximumGpu, ConfigFault, key_of, contains_bytes, digits_max, value_at, value_of, is_name_under, as_names, as_amounts, number_within, state_of, names_for, names_of, are_new, amounts_of, amounts_in, in_brackets, pieces_of, resource, number_of, entry_of, with_value, with_key, with_parts, line_parts, read_after, read_lines, and_then, is_passed_over, key_text, most_of, has_each, is_kept, is_bounded, are_bounded}
 
 kept_as : (most : ℕ) (queue : Option (List ℕ)) (value v : Value) → value ≡ v → is_kept most value queue ≡ true → is_kept most v queue ≡ true
 kept_as most queue value v e h = subst (λ (x : Value). is_kept most x queue ≡ true) e h

@@ -1,17 +1,5 @@
 -- The queues are the least tree.
-use Rattle.std.proofs.Common.{◌≡◌, ℕ, zero, suc, ◌+◌, ◌<◌, ◌≤◌, List, length, Bool, true, false, eqb, Option, Some, None, Ok, refl, sym, ap, ◌∙◌, arith, subst}
-use Rattle.std.specs.Prelude.{◌&&◌}
-use Rattle.std.specs.Str.Lines.{lines}
-use Rattle.std.proofs.lemmas.Bool.Decides.{nat_tests}
-use Rattle.cap_base.specs.declared.properties.entry.Entry.{Entry}
-use Rattle.cap_base.specs.properties.Keys.{root, parts_at_last_dot}
-use Rattle.cap_base.specs.properties.Seen.{contains_bytes}
-use Rattle.cap_base.specs.properties.Values.{is_name_under}
-use Rattle.cap_base.specs.properties.Queues.{is_queue, leads_to_root, above, names_below, child}
-use Rattle.cap_base.specs.properties.Tests.{too_deep_line, level}
-use Rattle.cap_base.specs.properties.Entries.{read_lines}
-use Rattle.cap_config.specs.Bounds.{are_bounded}
-use Rattle.cap_config.specs.Laws.{HasListed}
+use Rattle.cap_config.proofs.Prelude.{◌≡◌, ℕ, zero, suc, ◌+◌, ◌<◌, ◌≤◌, List, length, Bool, true, false, eqb, Option, Some, None, Ok, refl, sym, ap, ◌∙◌, arith, subst, ◌&&◌, lines, nat_tests, Entry, root, parts_at_last_dot, contains_bytes, is_name_under, is_queue, leads_to_root, above, names_below, child, too_deep_line, level, read_lines, are_bounded, HasListed}
 use Rattle.cap_config.proofs.Above.{parent_is, no_parent}
 use Rattle.cap_config.proofs.Trees.{queue_at_top}
 use Rattle.cap_config.proofs.Kept.{lines_kept}

@@ -1,5 +1,6 @@
 pub mod ChildPaths
 pub mod Dots
+mod Prelude
 pub mod QueueKeys
 pub mod Resources
 pub mod Parts

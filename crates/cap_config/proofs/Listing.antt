@@ -1,25 +1,5 @@
 -- The rows are listed from the root, each queue before those under it.
-use Rattle.std.proofs.Common.{◌≡◌, ℕ, zero, suc, ◌≤◌, List, [], ◌∷◌, ◌++◌, append_assoc, true, None, refl, sym, ◌∙◌, arith, subst, inr}
-use Rattle.std.specs.Prelude.{slice_index_or}
-use Rattle.std.specs.List.{All, flat_map, list_all}
-use Rattle.std.proofs.lemmas.List.{append-nil}
-use Rattle.std.proofs.lemmas.List.Elements.{All-append, All-nil, All-cons}
-use Rattle.std.proofs.lemmas.List.Splits.{length-slice_split}
-use Rattle.std.specs.Str.Lines.{lines}
-use Rattle.cap_base.specs.Settings.{QueueRow, Settings}
-use Rattle.cap_base.specs.Paths.{is_under, root_path}
-use Rattle.cap_base.specs.Trees.{depth}
-use Rattle.cap_base.proofs.paths.Paths.{under_is, is_under_it, under_itself}
-use Rattle.cap_base.specs.Listing.{MayFollow, IsListed, IsListedFromRoot, IsListing}
-use Rattle.cap_base.specs.Limits.{factor_max}
-use Rattle.cap_base.specs.declared.properties.entry.Entry.{Entry}
-use Rattle.cap_base.specs.properties.Keys.{root, is_dot}
-use Rattle.cap_base.specs.properties.Values.{is_name_under}
-use Rattle.cap_base.specs.properties.Queues.{names_below, child}
-use Rattle.cap_base.specs.properties.Tests.{whole_fault, level}
-use Rattle.cap_base.specs.properties.Rows.{rows_under, row_of, settings_of}
-use Rattle.cap_config.specs.Bounds.{are_bounded}
-use Rattle.cap_config.specs.TreeLaws.{SettingsAreListed}
+use Rattle.cap_config.proofs.Prelude.{◌≡◌, ℕ, zero, suc, ◌≤◌, List, [], ◌∷◌, ◌++◌, append_assoc, true, None, refl, sym, ◌∙◌, arith, subst, inr, slice_index_or, All, flat_map, list_all, append-nil, All-append, All-nil, All-cons, length-slice_split, lines, QueueRow, Settings, is_under, root_path, depth, under_is, is_under_it, under_itself, MayFollow, IsListed, IsListedFromRoot, IsListing, factor_max, Entry, root, is_dot, is_name_under, names_below, child, whole_fault, level, rows_under, row_of, settings_of, are_bounded, SettingsAreListed}
 use Rattle.cap_config.proofs.Kept.{lines_kept}
 use Rattle.cap_config.proofs.Found.{both, under_path, factor_small}
 use Rattle.cap_config.proofs.Children.{name_no_dot, child_is, under_child}

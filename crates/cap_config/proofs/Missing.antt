@@ -1,14 +1,6 @@
 -- The first path that is not listed, one queue after another.
-use Rattle.std.proofs.Common.{◌≡◌, List, [], ◌∷◌, ℕ, Bool, true, false, Option, Some, None, refl, ap, ◌∙◌}
-use Rattle.std.specs.Prelude.{◌&&◌, is_some, not}
-use Rattle.std.specs.Str.{bytes_eq}
-use Rattle.std.specs.Option.{option_map}
+use Rattle.cap_config.proofs.Prelude.{◌≡◌, List, [], ◌∷◌, ℕ, Bool, true, false, Option, Some, None, refl, ap, ◌∙◌, ◌&&◌, is_some, not, bytes_eq, option_map, Entry, parts_at_last_dot, root, above, is_below, is_queue, leads_to_root, names_below, contains_bytes, missing_from, missing_or, missing_path}
 use denote.Ref.{Bor}
-use Rattle.cap_base.specs.declared.properties.entry.Entry.{Entry}
-use Rattle.cap_base.specs.properties.Keys.{parts_at_last_dot, root}
-use Rattle.cap_base.specs.properties.Queues.{above, is_below, is_queue, leads_to_root, names_below}
-use Rattle.cap_base.specs.properties.Seen.{contains_bytes}
-use Rattle.cap_config.specs.Details.{missing_from, missing_or, missing_path}
 use Rattle.cap_config.proofs.Above.{parent_is, no_parent}
 
 -- a path below another, which lists it or not

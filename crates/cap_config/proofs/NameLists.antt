@@ -1,12 +1,5 @@
 -- Names of a list, one after the other.
-use Rattle.std.proofs.Common.{◌≡◌, ℕ, ◌<◌, List, [], ◌∷◌, ◌++◌, append_assoc, length, Bool, true, false, cond, eqb, not, Option, Some, None, refl, sym, ap, ◌∙◌, arith}
-use Rattle.std.specs.Prelude.{◌&&◌, map}
-use Rattle.std.specs.List.{list_all, slice_split}
-use Rattle.std.proofs.lemmas.List.{append-nil}
-use Rattle.cap_text.specs.Pieces.{trimmed_bytes, lacks, IsCut}
-use Rattle.cap_base.specs.properties.Seen.{contains_bytes}
-use Rattle.cap_base.specs.properties.Values.{is_next, is_name_under, are_new, names_for, names_of, name_under}
-use Rattle.cap_text.proofs.Cuts.{split_cut, split_uncut}
+use Rattle.cap_config.proofs.Prelude.{◌≡◌, ℕ, ◌<◌, List, [], ◌∷◌, ◌++◌, append_assoc, length, Bool, true, false, cond, eqb, not, Option, Some, None, refl, sym, ap, ◌∙◌, arith, ◌&&◌, map, list_all, slice_split, append-nil, trimmed_bytes, lacks, IsCut, contains_bytes, is_next, is_name_under, are_new, names_for, names_of, name_under, split_cut, split_uncut}
 
 -- the names of the parts, after those before
 abbrev pub names_from : List ℕ → List (List ℕ) → List (List ℕ) → Option (List (List ℕ))

@@ -1,17 +1,5 @@
 -- A line after those before.
-use Rattle.std.proofs.Common.{◌≡◌, ℕ, ◌+◌, List, [], ◌∷◌, ◌++◌, length, true, false, Some, None, Result, Ok, Err, refl, arith}
-use Rattle.std.specs.Str.Lines.{lines}
-use Rattle.cap_base.specs.declared.properties.entry.Entry.{Entry}
-use Rattle.cap_base.specs.declared.properties.key.Key.{Key}
-use Rattle.cap_base.specs.declared.properties.value.Value.{Value}
-use Rattle.cap_base.specs.declared.properties.fault.ConfigFault.{ConfigFault}
-use Rattle.cap_base.specs.declared.properties.fault.ConfigFaultKind.{ConfigFaultKind}
-use Rattle.cap_base.specs.declared.properties.fault.ConfigFaultKind.TheVariants.{BadLine, UnknownKey, Repeated, BadValue, NoMemory}
-use Rattle.cap_base.specs.properties.Fault.{fault_at, FailsBy}
-use Rattle.cap_base.specs.properties.Keys.{key_of}
-use Rattle.cap_base.specs.properties.Seen.{contains_bytes}
-use Rattle.cap_base.specs.properties.Values.{value_of}
-use Rattle.cap_base.specs.properties.Entries.{line_parts, entry_of, is_passed_over, read_after, key_text}
+use Rattle.cap_config.proofs.Prelude.{◌≡◌, ℕ, ◌+◌, List, [], ◌∷◌, ◌++◌, length, true, false, Some, None, Result, Ok, Err, refl, arith, lines, Entry, Key, Value, ConfigFault, ConfigFaultKind, BadLine, UnknownKey, Repeated, BadValue, NoMemory, fault_at, FailsBy, key_of, contains_bytes, value_of, line_parts, entry_of, is_passed_over, read_after, key_text}
 
 pub entry_no_parts : (keys : List (List ℕ)) (n : ℕ) (line : List ℕ) → line_parts line ≡ None → entry_of keys n line ≡ Err (fault_at n BadLine)
 unfolding entry_of

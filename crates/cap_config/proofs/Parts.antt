@@ -1,13 +1,6 @@
 -- Pieces between commas.
-use Rattle.std.proofs.Common.{◌≡◌, ℕ, ◌+◌, List, [], ◌∷◌, length, eqb, Bool, true, false, cond, Option, Some, None, refl, sym, ap, ◌∙◌}
-use Rattle.std.specs.Prelude.{map, find, count_by}
-use Rattle.std.specs.List.{slice_split}
-use Rattle.std.specs.Option.{option_map}
-use Rattle.std.proofs.lemmas.List.{length-map}
-use Rattle.std.proofs.lemmas.List.Splits.{length-slice_split}
+use Rattle.cap_config.proofs.Prelude.{◌≡◌, ℕ, ◌+◌, List, [], ◌∷◌, length, eqb, Bool, true, false, cond, Option, Some, None, refl, sym, ap, ◌∙◌, map, find, count_by, slice_split, option_map, length-map, length-slice_split, trimmed_bytes, pieces_of}
 use denote.Ref.{Bor}
-use Rattle.cap_text.specs.Pieces.{trimmed_bytes}
-use Rattle.cap_base.specs.properties.Values.{pieces_of}
 
 here : (passes : Bool) (piece : List ℕ) (later : Option (List ℕ)) → cond passes (Some (trimmed_bytes piece)) (option_map trimmed_bytes later) ≡ option_map trimmed_bytes (cond passes (Some piece) later)
 here true piece later = refl

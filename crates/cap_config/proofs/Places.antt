@@ -1,9 +1,6 @@
 -- Entries by the paths of their queues.
-use Rattle.std.proofs.Common.{◌≡◌, ℕ, suc, ◌<◌, ◌≤◌, List, length, get_or, drop, drop-cons, Bool, true, false, cond, Option, Some, sym, ap, ◌∙◌, arith}
-use Rattle.std.specs.Prelude.{find}
+use Rattle.cap_config.proofs.Prelude.{◌≡◌, ℕ, suc, ◌<◌, ◌≤◌, List, length, get_or, drop, drop-cons, Bool, true, false, cond, Option, Some, sym, ap, ◌∙◌, arith, find, Entry, pointed_entry}
 use denote.Ref.{Bor}
-use Rattle.cap_base.specs.declared.properties.entry.Entry.{Entry}
-use Rattle.cap_config.specs.Index.{pointed_entry}
 
 pub found_after : (here : Bool) (o r : Option (Bor Entry)) (w : Bor Entry) → r ≡ cond here (Some w) o → pointed_entry r ≡ cond here (Some w.now) (pointed_entry o)
 found_after true o r w e = ap pointed_entry e

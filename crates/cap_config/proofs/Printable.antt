@@ -1,13 +1,5 @@
 -- Printable bytes.
-use Rattle.std.proofs.Common.{◌≡◌, ℕ, ◌<◌, List, true, arith}
-use Rattle.std.specs.List.{list_all}
-use Rattle.std.specs.Str.{IsUtf8}
-use Rattle.std.proofs.lemmas.Bool.Decides.{nat_tests}
-use Rattle.std.proofs.lemmas.List.Elements.{All-weaker}
-use Rattle.std.proofs.lemmas.List.Sums.{AllPass-from_list_all}
-use Rattle.std.proofs.lemmas.Str.{IsUtf8-from_ascii}
-use Rattle.std.proofs.lemmas.Str.Ascii.{IsAscii-from_all}
-use Rattle.cap_base.specs.properties.Entries.{is_printable}
+use Rattle.cap_config.proofs.Prelude.{◌≡◌, ℕ, ◌<◌, List, true, arith, list_all, IsUtf8, nat_tests, All-weaker, AllPass-from_list_all, IsUtf8-from_ascii, IsAscii-from_all, is_printable}
 
 printable_is_ascii : (b : ℕ) → is_printable b ≡ true → b < 128
 printable_is_ascii b h = grind (arith, nat_tests)

@@ -1,9 +1,5 @@
 -- The key of a queue.
-use Rattle.std.proofs.Common.{◌≡◌, ℕ, ◌-◌, List, length, take, drop, Option, true, ap, ◌∙◌}
-use Rattle.std.specs.Prelude.{nat_eq}
-use Rattle.std.specs.List.{starts_with}
-use Rattle.cap_base.specs.properties.Keys.{queue_key, key_of_parts, parts_at_last_dot, prefix}
-use Rattle.cap_text.proofs.Cuts.{rest_all}
+use Rattle.cap_config.proofs.Prelude.{◌≡◌, ℕ, ◌-◌, List, length, take, drop, Option, true, ap, ◌∙◌, nat_eq, starts_with, queue_key, key_of_parts, parts_at_last_dot, prefix, rest_all}
 
 pub queue_key_at : (bytes : List ℕ) (parts : Option (List ℕ × List ℕ)) → starts_with nat_eq bytes prefix ≡ true →
     parts ≡ parts_at_last_dot (take (length bytes - 24) (drop 24 bytes)) → key_of_parts parts ≡ queue_key bytes

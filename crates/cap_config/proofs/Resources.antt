@@ -1,11 +1,5 @@
 -- A resource of three amounts.
-use Rattle.std.proofs.Common.{◌≡◌, ℕ, zero, suc, ◌≤◌, List, [], ◌∷◌, true, false, Option, Some, None, refl, ap, arith}
-use Rattle.std.specs.Prelude.{◌↔◌, IfSome, IsSome}
-use Rattle.std.proofs.lemmas.Bool.{false_from_ne_true}
-use Rattle.std.proofs.lemmas.Bool.Decides.{nat_tests}
-use Rattle.cap_base.specs.Limits.{resources}
-use Rattle.cap_vector.specs.Vector.{IsVector, IsWithin, amount_max, is_within}
-use Rattle.cap_base.specs.properties.Values.{resource}
+use Rattle.cap_config.proofs.Prelude.{◌≡◌, ℕ, zero, suc, ◌≤◌, List, [], ◌∷◌, true, false, Option, Some, None, refl, ap, arith, ◌↔◌, IfSome, IsSome, false_from_ne_true, nat_tests, resources, IsVector, IsWithin, amount_max, is_within, resource}
 
 three_within : (m v g : ℕ) → m ≤ amount_max → v ≤ amount_max → g ≤ amount_max → IsWithin amount_max (m ∷ v ∷ g ∷ [])
 three_within m v g hm hv hg zero = hm

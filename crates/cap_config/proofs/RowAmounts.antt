@@ -1,23 +1,5 @@
 -- Each vector of the settings has an amount of each resource, and the bounds of a container are resources.
-use Rattle.std.proofs.Common.{◌≡◌, ℕ, zero, suc, List, [], ◌∷◌, length, true, Option, Some, None, refl, subst, arith}
-use Rattle.std.specs.Prelude.{IfSome}
-use Rattle.std.specs.List.{All, flat_map}
-use Rattle.std.specs.Str.Lines.{lines}
-use Rattle.std.proofs.lemmas.Bool.{eqb-true}
-use Rattle.std.proofs.lemmas.List.Elements.{All-cons, All-nil}
-use Rattle.cap_vector.specs.Vector.{IsResource}
-use Rattle.cap_base.specs.Limits.{resources}
-use Rattle.cap_base.specs.declared.properties.entry.Entry.{Entry}
-use Rattle.cap_base.specs.declared.properties.value.Value.{Value}
-use Rattle.cap_base.specs.declared.properties.value.Value.TheVariants.{Amounts}
-use Rattle.cap_base.specs.declared.properties.setting.Setting.{Setting}
-use Rattle.cap_base.specs.declared.properties.setting.Setting.TheVariants.{Capacity, MaximumCapacity, MinimumMemory, MinimumVcores, MinimumGpu, MaximumMemory, MaximumVcores, MaximumGpu}
-use Rattle.cap_base.specs.properties.Keys.{root}
-use Rattle.cap_base.specs.properties.Queues.{above, amounts_at, amounts_or, child, entry_for, guaranteed, is_entry_for, names_below, nearest_maximum, or_zero}
-use Rattle.cap_base.specs.properties.Tests.{minimum_allocation, maximum_allocation}
-use Rattle.cap_base.specs.properties.Rows.{row_of, rows_under, settings_of}
-use Rattle.cap_config.specs.Bounds.{are_bounded, is_bounded, is_kept, most_of}
-use Rattle.cap_config.specs.Laws.{HasAmounts, QueueHasAmounts, SettingsHaveAmounts}
+use Rattle.cap_config.proofs.Prelude.{◌≡◌, ℕ, zero, suc, List, [], ◌∷◌, length, true, Option, Some, None, refl, subst, arith, IfSome, All, flat_map, lines, eqb-true, All-cons, All-nil, IsResource, resources, Entry, Value, Amounts, Setting, Capacity, MaximumCapacity, MinimumMemory, MinimumVcores, MinimumGpu, MaximumMemory, MaximumVcores, MaximumGpu, root, above, amounts_at, amounts_or, child, entry_for, guaranteed, is_entry_for, names_below, nearest_maximum, or_zero, minimum_allocation, maximum_allocation, row_of, rows_under, settings_of, are_bounded, is_bounded, is_kept, most_of, HasAmounts, QueueHasAmounts, SettingsHaveAmounts}
 use Rattle.cap_config.proofs.Found.{found_has, number_small}
 use Rattle.cap_config.proofs.Kept.{lines_kept}
 use Rattle.cap_config.proofs.Listing.{all_small}

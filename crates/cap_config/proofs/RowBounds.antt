@@ -1,24 +1,5 @@
 -- There are at most 1,024 rows.
-use Rattle.std.proofs.Common.{◌≡◌, ℕ, zero, suc, ◌+◌, ◌≤◌, List, [], ◌∷◌, length, length-append, Bool, true, false, cond, ltb, Option, Some, None, Ok, refl, sym, ◌∙◌, arith, subst}
-use Rattle.std.specs.Prelude.{find}
-use Rattle.std.specs.List.{flat_map, sum_by}
-use Rattle.std.specs.Str.{bytes_eq}
-use Rattle.std.specs.Str.Lines.{lines}
-use Rattle.std.proofs.lemmas.Bool.Decides.{nat_tests}
-use Rattle.std.proofs.lemmas.List.Sums.{sum_by-cons, sum_by-append}
-use Rattle.cap_base.specs.Settings.{QueueRow}
-use Rattle.cap_base.proofs.lists.Sums.{sum_of_two}
-use Rattle.cap_base.proofs.lists.Tests.{bytes_turned}
-use Rattle.cap_base.specs.declared.properties.entry.Entry.{Entry}
-use Rattle.cap_base.specs.declared.properties.value.Value.{Value}
-use Rattle.cap_base.specs.declared.properties.value.Value.TheVariants.{Names, Amounts, Number, Running}
-use Rattle.cap_base.specs.declared.properties.setting.Setting.TheVariants.{Queues}
-use Rattle.cap_base.specs.properties.Keys.{root}
-use Rattle.cap_base.specs.properties.Queues.{entry_for, is_entry_for, is_path_at, same_setting, names_below, names_or_none, names_in_value, child}
-use Rattle.cap_base.specs.properties.Tests.{listed_by, line_past, whole_fault}
-use Rattle.cap_base.specs.properties.Entries.{read_lines}
-use Rattle.cap_config.specs.Bounds.{are_bounded}
-use Rattle.cap_base.specs.properties.Rows.{rows_under, row_of, settings_of}
+use Rattle.cap_config.proofs.Prelude.{◌≡◌, ℕ, zero, suc, ◌+◌, ◌≤◌, List, [], ◌∷◌, length, length-append, Bool, true, false, cond, ltb, Option, Some, None, Ok, refl, sym, ◌∙◌, arith, subst, find, flat_map, sum_by, bytes_eq, lines, nat_tests, sum_by-cons, sum_by-append, QueueRow, sum_of_two, bytes_turned, Entry, Value, Names, Amounts, Number, Running, Queues, root, entry_for, is_entry_for, is_path_at, same_setting, names_below, names_or_none, names_in_value, child, listed_by, line_past, whole_fault, read_lines, are_bounded, rows_under, row_of, settings_of}
 use Rattle.cap_config.proofs.Kept.{lines_kept}
 use Rattle.cap_config.proofs.RowPaths.{shape_of, rows_of_settings}
 use Rattle.cap_config.proofs.RowCounts.{rows_for, rows_at_most}

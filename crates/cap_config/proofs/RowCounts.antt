@@ -1,25 +1,5 @@
 -- One row for each queue.
-use Rattle.std.proofs.Common.{◌≡◌, ℕ, zero, suc, ◌+◌, ◌≤◌, List, [], ◌∷◌, ◌++◌, length, length-append, drop, Bool, true, false, cond, not, None, Ok, refl, sym, ap, ◌∙◌, inl, inr, arith, subst}
-use Rattle.std.specs.Prelude.{◌||◌, count_by}
-use Rattle.std.specs.List.{flat_map, list_all, sum_by}
-use Rattle.std.specs.Str.{bytes_eq}
-use Rattle.std.specs.Str.Lines.{lines}
-use Rattle.std.proofs.lemmas.List.{append_cancel_left}
-use Rattle.std.proofs.lemmas.List.Sums.{sum_by-cons, sum_by-append}
-use Rattle.std.proofs.lemmas.List.Folds.{list_any-append}
-use Rattle.std.proofs.lemmas.Slice.Eq.{bytes_eq-Decides}
-use Rattle.std.proofs.lemmas.Bool.{or_parts, false_from_ne_true, not-true}
-use Rattle.cap_base.specs.Settings.{QueueRow}
-use Rattle.cap_base.proofs.paths.Paths.{IsUnder, before_dot, child_to, only_child}
-use Rattle.cap_base.specs.declared.properties.entry.Entry.{Entry}
-use Rattle.cap_base.specs.properties.Keys.{root, last_dot}
-use Rattle.cap_base.specs.properties.Seen.{contains_bytes}
-use Rattle.cap_base.specs.properties.Values.{are_new, is_name_under}
-use Rattle.cap_base.specs.properties.Queues.{is_queue, names_below, child}
-use Rattle.cap_base.specs.properties.Tests.{whole_fault}
-use Rattle.cap_base.specs.properties.Entries.{read_lines}
-use Rattle.cap_base.specs.properties.Rows.{rows_under, row_of, settings_of}
-use Rattle.cap_config.specs.Bounds.{are_bounded}
+use Rattle.cap_config.proofs.Prelude.{◌≡◌, ℕ, zero, suc, ◌+◌, ◌≤◌, List, [], ◌∷◌, ◌++◌, length, length-append, drop, Bool, true, false, cond, not, None, Ok, refl, sym, ap, ◌∙◌, inl, inr, arith, subst, ◌||◌, count_by, flat_map, list_all, sum_by, bytes_eq, lines, append_cancel_left, sum_by-cons, sum_by-append, list_any-append, bytes_eq-Decides, or_parts, false_from_ne_true, not-true, QueueRow, IsUnder, before_dot, child_to, only_child, Entry, root, last_dot, contains_bytes, are_new, is_name_under, is_queue, names_below, child, whole_fault, read_lines, rows_under, row_of, settings_of, are_bounded}
 use Rattle.cap_config.proofs.Kept.{lines_kept}
 use Rattle.cap_config.proofs.Found.{both, same_bytes, names_once, under_path}
 use Rattle.cap_config.proofs.Children.{name_no_dot, child_is, child_rest, count_no, under_child}

@@ -1,11 +1,5 @@
 -- The rows of a queue and those under it.
-use Rattle.std.proofs.Common.{◌≡◌, ℕ, suc, ◌≤◌, List, ◌∷◌, ◌++◌, length, take, refl, sym, ap, ◌∙◌}
-use Rattle.std.specs.List.{flat_map}
-use Rattle.std.proofs.lemmas.List.{append-nil, take_all}
-use Rattle.cap_base.specs.Settings.{QueueRow}
-use Rattle.cap_base.specs.declared.properties.entry.Entry.{Entry}
-use Rattle.cap_base.specs.properties.Queues.{child, names_below}
-use Rattle.cap_base.specs.properties.Rows.{rows_under, row_of}
+use Rattle.cap_config.proofs.Prelude.{◌≡◌, ℕ, suc, ◌≤◌, List, ◌∷◌, ◌++◌, length, take, refl, sym, ap, ◌∙◌, flat_map, append-nil, take_all, QueueRow, Entry, child, names_below, rows_under, row_of}
 
 pub rows_none : (old : List QueueRow) (levels : ℕ) (entries : List Entry) (path : List ℕ) → levels ≡ 0 → old ≡ old ++ rows_under levels entries path
 unfolding rows_under

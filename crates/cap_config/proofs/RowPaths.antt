@@ -1,22 +1,5 @@
 -- The paths of the rows are those of the queues.
-use Rattle.std.proofs.Common.{◌≡◌, ℕ, zero, suc, ◌+◌, ◌≤◌, List, [], ◌∷◌, ◌++◌, Bool, true, false, Option, None, Ok, refl, sym, ap, ◌∙◌, arith, subst}
-use Rattle.std.specs.Prelude.{◌||◌, map}
-use Rattle.std.specs.List.{flat_map}
-use Rattle.std.specs.Str.{bytes_eq}
-use Rattle.std.specs.Str.Lines.{lines}
-use Rattle.cap_base.specs.Settings.{QueueRow}
-use Rattle.cap_base.proofs.lists.Tests.{same_test, bytes_itself}
-use Rattle.cap_base.specs.declared.properties.entry.Entry.{Entry}
-use Rattle.cap_base.specs.declared.properties.fault.ConfigFault.{ConfigFault}
-use Rattle.cap_base.specs.declared.properties.fault.ConfigFaultKind.{ConfigFaultKind}
-use Rattle.cap_base.specs.properties.Keys.{root}
-use Rattle.cap_base.specs.properties.Seen.{contains_bytes}
-use Rattle.cap_base.specs.properties.Queues.{is_queue, names_below, child}
-use Rattle.cap_base.specs.declared.properties.fault.ConfigFaultKind.TheVariants.{BadValue, NoChild, NoSuchQueue, TooDeep, TooManyQueues, GuaranteeOverMaximum}
-use Rattle.cap_base.specs.properties.Tests.{allocation_line, no_child_line, no_such_queue_line, too_deep_line, too_many_line, over_maximum_line, level, whole_fault, shape_fault, or_else, or_fault}
-use Rattle.cap_base.specs.properties.Entries.{read_lines}
-use Rattle.cap_base.specs.properties.Rows.{rows_under, row_of, settings_of}
-use Rattle.cap_config.specs.Bounds.{are_bounded}
+use Rattle.cap_config.proofs.Prelude.{◌≡◌, ℕ, zero, suc, ◌+◌, ◌≤◌, List, [], ◌∷◌, ◌++◌, Bool, true, false, Option, None, Ok, refl, sym, ap, ◌∙◌, arith, subst, ◌||◌, map, flat_map, bytes_eq, lines, QueueRow, same_test, bytes_itself, Entry, ConfigFault, ConfigFaultKind, root, contains_bytes, is_queue, names_below, child, BadValue, NoChild, NoSuchQueue, TooDeep, TooManyQueues, GuaranteeOverMaximum, allocation_line, no_child_line, no_such_queue_line, too_deep_line, too_many_line, over_maximum_line, level, whole_fault, shape_fault, or_else, or_fault, read_lines, rows_under, row_of, settings_of, are_bounded}
 use Rattle.cap_config.proofs.Kept.{lines_kept}
 use Rattle.cap_config.proofs.Found.{same_bytes}
 use Rattle.cap_config.proofs.Children.{level_below}

@@ -1,24 +1,5 @@
 -- The rows are a tree.
-use Rattle.std.proofs.Common.{◌≡◌, ℕ, zero, suc, ◌+◌, ◌<◌, ◌≤◌, List, [], ◌∷◌, ◌++◌, length, Bool, true, false, cond, Option, Some, None, Result, Ok, Err, refl, sym, ap, ◌∙◌, arith, subst}
-use Rattle.std.specs.Prelude.{◌||◌, is_some, find, slice_index_or}
-use Rattle.std.specs.List.{list_any}
-use Rattle.std.specs.Str.{bytes_eq}
-use Rattle.std.specs.Str.Lines.{lines}
-use Rattle.std.proofs.lemmas.List.Sums.{sum_by-cons}
-use Rattle.std.proofs.lemmas.Option.{same_Some}
-use Rattle.cap_base.specs.Settings.{QueueRow, Settings}
-use Rattle.cap_base.specs.Trees.{IsTree, HasDistinctPaths, has_path}
-use Rattle.cap_base.proofs.lists.Tests.{bytes_itself}
-use Rattle.cap_base.specs.declared.properties.entry.Entry.{Entry}
-use Rattle.cap_base.specs.declared.properties.fault.ConfigFault.{ConfigFault}
-use Rattle.cap_base.specs.properties.Keys.{root, last_dot, is_dot}
-use Rattle.cap_base.specs.properties.Seen.{contains_bytes}
-use Rattle.cap_base.specs.properties.Queues.{is_queue, child}
-use Rattle.cap_base.specs.properties.Entries.{read_lines}
-use Rattle.cap_base.specs.properties.Tests.{whole_fault}
-use Rattle.cap_base.specs.properties.Rows.{settings_of, rows_under}
-use Rattle.cap_config.specs.Bounds.{are_bounded}
-use Rattle.cap_base.specs.properties.First.{settings_in, settings_after, unless_fault}
+use Rattle.cap_config.proofs.Prelude.{◌≡◌, ℕ, zero, suc, ◌+◌, ◌<◌, ◌≤◌, List, [], ◌∷◌, ◌++◌, length, Bool, true, false, cond, Option, Some, None, Result, Ok, Err, refl, sym, ap, ◌∙◌, arith, subst, ◌||◌, is_some, find, slice_index_or, list_any, bytes_eq, lines, sum_by-cons, same_Some, QueueRow, Settings, IsTree, HasDistinctPaths, has_path, bytes_itself, Entry, ConfigFault, root, last_dot, is_dot, contains_bytes, is_queue, child, read_lines, whole_fault, settings_of, rows_under, are_bounded, settings_in, settings_after, unless_fault}
 use Rattle.cap_config.proofs.Children.{dotless_cons}
 use Rattle.cap_config.proofs.Least.{of_queues}
 use Rattle.cap_config.proofs.RowPaths.{paths_of, first_of_two, second_of_two, queue_rows}

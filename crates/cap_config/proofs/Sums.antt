@@ -1,15 +1,5 @@
 -- The sums of the capacities of the queues below.
-use Rattle.std.proofs.Common.{◌≡◌, ℕ, ◌+◌, ◌<◌, ◌≤◌, List, [], length, get_or, take, false, ltb, refl, sym, ap, ◌∙◌, arith}
-use Rattle.std.proofs.lemmas.Bool.Decides.{nat_tests}
-use Rattle.std.proofs.lemmas.List.Sums.{sum_by_more}
-use Rattle.cap_base.specs.Limits.{resources}
-use Rattle.cap_vector.specs.Vector.{amount_max, by_amount}
-use Rattle.cap_base.specs.declared.properties.entry.Entry.{Entry}
-use Rattle.std.specs.Str.{bytes_eq}
-use Rattle.cap_base.specs.properties.Keys.{root}
-use Rattle.cap_base.specs.properties.Queues.{guaranteed, child}
-use Rattle.cap_base.specs.properties.Tests.{exceeds, guaranteed_below, is_overspent, sum_below}
-use Rattle.cap_config.specs.Details.{added_below, capped}
+use Rattle.cap_config.proofs.Prelude.{◌≡◌, ℕ, ◌+◌, ◌<◌, ◌≤◌, List, [], length, get_or, take, false, ltb, refl, sym, ap, ◌∙◌, arith, nat_tests, sum_by_more, resources, amount_max, by_amount, Entry, bytes_eq, root, guaranteed, child, exceeds, guaranteed_below, is_overspent, sum_below, added_below, capped}
 use Rattle.cap_config.proofs.Exceeding.{amount_of_all, exceeds_not, exceeds_same}
 
 capped_more : (s g : ℕ) → capped (capped s + g) ≡ capped (s + g)

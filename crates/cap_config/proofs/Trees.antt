@@ -1,16 +1,6 @@
 -- Up from a queue to the root.
-use Rattle.std.proofs.Common.{◌≡◌, ℕ, List, [], Option, Some, None, refl, ap, ◌∙◌}
-use Rattle.std.specs.Str.{bytes_eq}
-use Rattle.std.specs.BTreeMap.{BTreeMap}
+use Rattle.cap_config.proofs.Prelude.{◌≡◌, ℕ, List, [], Option, Some, None, refl, ap, ◌∙◌, bytes_eq, BTreeMap, Entry, Value, Amounts, Setting, MaximumCapacity, root, is_queue, maximum, nearest_maximum, leads_to_root, above, amounts_at, amounts_or, entry_for, entry_at, FindsAll}
 use denote.Ref.{Bor}
-use Rattle.cap_base.specs.declared.properties.entry.Entry.{Entry}
-use Rattle.cap_base.specs.declared.properties.value.Value.{Value}
-use Rattle.cap_base.specs.declared.properties.value.Value.TheVariants.{Amounts}
-use Rattle.cap_base.specs.declared.properties.setting.Setting.{Setting}
-use Rattle.cap_base.specs.declared.properties.setting.Setting.TheVariants.{MaximumCapacity}
-use Rattle.cap_base.specs.properties.Keys.{root}
-use Rattle.cap_base.specs.properties.Queues.{is_queue, maximum, nearest_maximum, leads_to_root, above, amounts_at, amounts_or, entry_for}
-use Rattle.cap_config.specs.Index.{entry_at, FindsAll}
 use Rattle.cap_config.proofs.Above.{IsParent}
 
 pub queue_at_top : (entries : List Entry) (path : List ℕ) → above path ≡ [] → is_queue entries path ≡ bytes_eq path root

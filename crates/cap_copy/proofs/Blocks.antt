@@ -1,23 +1,5 @@
 -- Applications by their indexes, and the asks that stand together.
-use Rattle.std.proofs.Common.{◌≡◌, ℕ, zero, suc, ◌+◌, ◌<◌, ◌≤◌, Bool, true, false, List, [], ◌∷◌, ◌++◌, refl, sym, ◌∙◌, ap, inl, inr, arith}
-use Rattle.std.specs.Prelude.{Option, Some, None, cond, filter, flat_map, map, ◌==◌}
-use Rattle.std.specs.List.{slice_get}
-use Rattle.std.specs.Option.{option_map_or}
-use Rattle.std.proofs.lemmas.Bool.{cases_lt, eq-eqb, eqb-true, ne_eqb}
-use Rattle.std.proofs.lemmas.List.{append-nil, map-id}
-use Rattle.std.proofs.lemmas.List.Concat.{flat_map-cons}
-use Rattle.std.proofs.lemmas.List.Elements.{filter-append}
-use Rattle.std.proofs.lemmas.Option.{same_Some}
-use Rattle.cap_base.specs.Members.{IsRising}
-use Rattle.cap_model.specs.Flat.{App}
-use Rattle.cap_model.specs.Sight.{NodeSight}
-use Rattle.cap_base.proofs.lists.Filters.{map_twice}
-use Rattle.cap_model.proofs.lists.Numbered.{rising_from_low}
-use Rattle.cap_base.proofs.lists.Members.{IsIn, in_either}
-use Rattle.cap_base.proofs.lists.Tests.{same_test}
-use Rattle.cap_copy.specs.Entries.{ask_entries, ask_entry, asks_at, asks_of, indexes}
-use Rattle.cap_copy.specs.AskEntry.{AskEntry}
-use Rattle.cap_copy.specs.Snapshot.{asks_for}
+use Rattle.cap_copy.proofs.Prelude.{◌≡◌, ℕ, zero, suc, ◌+◌, ◌<◌, ◌≤◌, Bool, true, false, List, [], ◌∷◌, ◌++◌, refl, sym, ◌∙◌, ap, inl, inr, arith, Option, Some, None, cond, filter, flat_map, map, ◌==◌, slice_get, option_map_or, cases_lt, eq-eqb, eqb-true, ne_eqb, append-nil, map-id, flat_map-cons, filter-append, same_Some, IsRising, App, NodeSight, map_twice, rising_from_low, IsIn, in_either, same_test, ask_entries, ask_entry, asks_at, asks_of, indexes, AskEntry, asks_for}
 use Rattle.cap_copy.proofs.LoopSteps.{slice_get_in}
 
 module _ {A : Type 0} (num : A → ℕ) where

@@ -1,18 +1,13 @@
 -- What a snapshot is made of, and what it is taken from, are no larger than memory.
-use Rattle.std.proofs.Common.{ℕ, ◌<◌, ◌≤◌, ◌^◌, [], ◌∷◌, arith}
-use Rattle.std.specs.Mem.{FitsInMemory}
-use Rattle.std.specs.Borrow.{RattleType}
-use Rattle.std.specs.declared.alloc.Allocator.{Ghosts}
+use Rattle.cap_copy.proofs.Prelude.{ℕ, ◌<◌, ◌≤◌, ◌^◌, [], ◌∷◌, arith, FitsInMemory, RattleType, Ghosts, resources_max, part, part_fits, container_fits}
 use prog.Memory.{size}
 use denote.Param.{layout, number, param}
-use Rattle.cap_base.specs.Limits.{resources_max}
 use Rattle.cap_model.specs.contracts.ask.Ask as ask
 use Rattle.cap_model.specs.contracts.container.Reservation as reservation
 use Rattle.cap_vector.specs.contracts.vector.Amounts as amounts
 use Rattle.cap_tree.specs.contracts.seen.SeenTree as seen_tree
-use Rattle.cap_tree.proofs.Sizes.{part, part_fits}
 use Rattle.cap_nodes.specs.contracts.nodes.Nodes as nodes
-use Rattle.cap_nodes.proofs.Sizes.{container_fits, nodes_of_few as fits_of_few}
+use Rattle.cap_nodes.proofs.Sizes.{nodes_of_few as fits_of_few}
 use Rattle.cap_copy.specs.contracts.snapshot.Snapshot as snapshot
 use Rattle.cap_copy.specs.contracts.copied.ClusterCopy as copied
 use Rattle.cap_copy.specs.contracts.seen_app.SeenApp as seen_app

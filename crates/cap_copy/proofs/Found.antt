@@ -1,13 +1,5 @@
 -- A queue of a tree is found by its path.
-use Rattle.std.proofs.Common.{◌≡◌, ℕ, Bool, true, false, cond, List, [], ◌∷◌, refl, sym, ◌∙◌, ap, subst, inl, inr}
-use Rattle.std.specs.Prelude.{Some, bytes_eq, find}
-use Rattle.std.specs.List.{list_any}
-use Rattle.std.proofs.lemmas.Slice.Eq.{bytes_eq-Decides}
-use Rattle.cap_base.specs.Settings.{QueueRow}
-use Rattle.cap_base.specs.Trees.{HasDistinctPaths}
-use Rattle.cap_base.proofs.lists.Members.{IsIn}
-use Rattle.cap_base.proofs.lists.Tests.{bytes_itself, or_left, or_right}
-use Rattle.cap_tree.specs.Rows.{Row, queues_of}
+use Rattle.cap_copy.proofs.Prelude.{◌≡◌, ℕ, Bool, true, false, cond, List, [], ◌∷◌, refl, sym, ◌∙◌, ap, subst, inl, inr, Some, bytes_eq, find, list_any, bytes_eq-Decides, QueueRow, HasDistinctPaths, IsIn, bytes_itself, or_left, or_right, Row, queues_of}
 
 not_among : (rows : List Row) (path : List ℕ) (r : Row) → list_any (λ (q : QueueRow). bytes_eq q.path path) (queues_of rows) ≡ false → IsIn r rows → bytes_eq r.path path ≡ false
 not_among [] path r h m = absurd m

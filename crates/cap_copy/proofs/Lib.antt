@@ -1,5 +1,6 @@
 pub mod Blocks
 pub mod Found
+mod Prelude
 pub mod ServedAsks
 pub mod Order
 pub mod Ranging

@@ -1,15 +1,5 @@
 -- One step of a loop over applications, asks or nodes.
-use Rattle.std.proofs.Common.{◌≡◌, ℕ, zero, suc, ◌+◌, List, [], ◌∷◌, ◌++◌, ◌∙◌, ap, inl, inr, arith, take}
-use Rattle.std.specs.Prelude.{Option, Some, map}
-use Rattle.std.specs.List.{slice_get}
-use Rattle.std.specs.Option.{option_map_or}
-use Rattle.std.proofs.lemmas.List.{append-nil, map_push, take_more}
-use Rattle.std.proofs.lemmas.Grind.{flat_map-append}
-use Rattle.std.proofs.lemmas.Option.{get_or_from_slice_get, slice_get_within, same_Some}
-use Rattle.cap_model.specs.Flat.{App}
-use Rattle.cap_model.specs.Sight.{NodeSight}
-use Rattle.cap_base.proofs.lists.Members.{IsIn}
-use Rattle.cap_copy.specs.Entries.{ask_entries, asks_at, asks_of, indexes}
+use Rattle.cap_copy.proofs.Prelude.{◌≡◌, ℕ, zero, suc, ◌+◌, List, [], ◌∷◌, ◌++◌, ◌∙◌, ap, inl, inr, arith, take, Option, Some, map, slice_get, option_map_or, append-nil, map_push, take_more, flat_map-append, get_or_from_slice_get, slice_get_within, same_Some, App, NodeSight, IsIn, ask_entries, asks_at, asks_of, indexes}
 
 module _ {A : Type 0} where
   pub one_more : (xs : List A) (i : ℕ) (x : A) → slice_get xs i ≡ Some x → take (i + 1) xs ≡ take i xs ++ x ∷ []

@@ -1,25 +1,5 @@
 -- Numbers in an order, each once, and what comes next in it.
-use Rattle.std.proofs.Common.{◌≡◌, ℕ, zero, suc, ◌<◌, Bool, true, false, cond, List, [], ◌∷◌, ◌++◌, length, refl, sym, ◌∙◌, ap, subst, arith, inl, inr, ◌⊎◌}
-use Rattle.std.specs.Prelude.{Option, Some, None}
-use Rattle.std.specs.List.{slice_get}
-use Rattle.std.specs.Ordering.{is_gt, nat_cmp, ordering_reverse, ordering_then}
-use Rattle.std.specs.declared.cmp.Ordering.{Ordering}
-use Rattle.std.specs.declared.cmp.Ordering.TheVariants.{Less, Equal, Greater}
-use Rattle.std.specs.Cmp.{IsTotalOrder}
-use Rattle.std.specs.Cmp.Lexicographic.{slice_cmp}
-use Rattle.std.proofs.lemmas.Bool.{cases_Bool, cases_lt}
-use Rattle.std.proofs.lemmas.List.{append_assoc}
-use Rattle.std.proofs.lemmas.Option.{same_Some}
-use Rattle.std.proofs.lemmas.Cmp.{lists_total, nat_cmp_total, on_total, ranked, then_total, tied_itself}
-use Rattle.cap_base.specs.Levels.{level_cmp}
-use Rattle.cap_base.proofs.Levels.{level_cmp_total}
-use Rattle.cap_base.proofs.lists.Members.{IsIn, each_of, in_either, in_right, of_each}
-use Rattle.cap_model.proofs.choice.Orders.{not_after_other, not_after_trans}
-use Rattle.cap_tree.specs.Rows.{Row}
-use Rattle.cap_tree.specs.Service.{levels_at}
-use Rattle.cap_tree.specs.ServiceOrder.{AreInOrder, IsNextServed, position_nth, waiting_cmp}
-use Rattle.cap_copy.specs.Order.{in_order, placed_in, service_order}
-use Rattle.cap_copy.specs.Snapshot.{IsNextAfter, IsUpTo}
+use Rattle.cap_copy.proofs.Prelude.{◌≡◌, ℕ, zero, suc, ◌<◌, Bool, true, false, cond, List, [], ◌∷◌, ◌++◌, length, refl, sym, ◌∙◌, ap, subst, arith, inl, inr, ◌⊎◌, Option, Some, None, slice_get, is_gt, nat_cmp, ordering_reverse, ordering_then, Ordering, Less, Equal, Greater, IsTotalOrder, slice_cmp, cases_Bool, cases_lt, append_assoc, same_Some, lists_total, nat_cmp_total, on_total, ranked, then_total, tied_itself, level_cmp, level_cmp_total, IsIn, each_of, in_either, in_right, of_each, not_after_other, not_after_trans, Row, levels_at, AreInOrder, IsNextServed, position_nth, waiting_cmp, in_order, placed_in, service_order, IsNextAfter, IsUpTo}
 use Rattle.cap_copy.proofs.ServedAsks.{AreOnce}
 
 -- what stands where a number was put in

@@ -1,16 +1,5 @@
 -- Where the asks of each application lie, and how such a range is found.
-use Rattle.std.proofs.Common.{◌≡◌, ◌≢◌, ℕ, zero, suc, ◌+◌, ◌<◌, ◌≤◌, List, [], ◌∷◌, ◌++◌, length, length-append, map, refl, sym, ◌∙◌, ap, subst, arith, inl, inr, ◌⊎◌}
-use Rattle.std.specs.Prelude.{Some, None, option_map}
-use Rattle.std.specs.List.{slice_get}
-use Rattle.std.proofs.Math.ListN.{set}
-use Rattle.std.proofs.lemmas.Bool.{cases_lt}
-use Rattle.std.proofs.lemmas.List.{length-map}
-use Rattle.std.proofs.lemmas.Option.{same_Some, slice_get-map, slice_get_within}
-use Rattle.cap_base.proofs.lists.Members.{IsIn}
-use Rattle.cap_copy.specs.declared.ranges.AskRange.{AskRange}
-use Rattle.cap_copy.specs.AskEntry.{AskEntry}
-use Rattle.cap_copy.specs.AskRanges.{AreApart, AreInside, AreRanges, IsRangeOf}
-use Rattle.cap_copy.specs.SeenApp.{SeenApp, range_in}
+use Rattle.cap_copy.proofs.Prelude.{◌≡◌, ◌≢◌, ℕ, zero, suc, ◌+◌, ◌<◌, ◌≤◌, List, [], ◌∷◌, ◌++◌, length, length-append, map, refl, sym, ◌∙◌, ap, subst, arith, inl, inr, ◌⊎◌, Some, None, option_map, slice_get, set, cases_lt, length-map, same_Some, slice_get-map, slice_get_within, IsIn, AskRange, AskEntry, AreApart, AreInside, AreRanges, IsRangeOf, SeenApp, range_in}
 use Rattle.cap_copy.proofs.LoopSteps.{slice_get_in}
 
 -- what stands at an index of a list in which one element was replaced

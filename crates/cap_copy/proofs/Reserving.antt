@@ -1,23 +1,5 @@
 -- What asks want beside the reservations of nodes, one node after the other.
-use Rattle.std.proofs.Common.{◌≡◌, ℕ, suc, ◌+◌, ◌-◌, ◌<◌, ◌≤◌, Bool, true, false, cond, List, [], ◌∷◌, length, refl, sym, ◌∙◌, ap, subst, arith, inl, inr, take}
-use Rattle.std.specs.Prelude.{Option, Some, None, ◌==◌, map, option_map, nat_lt}
-use Rattle.std.specs.List.{slice_get}
-use Rattle.std.proofs.Math.ListN.{set}
-use Rattle.std.proofs.lemmas.Bool.{and_parts, eq-eqb, eqb-true}
-use Rattle.std.proofs.lemmas.Bool.Decides.{nat_tests}
-use Rattle.std.proofs.lemmas.List.{length-map}
-use Rattle.std.proofs.lemmas.List.Sums.{count_by_more_no, count_by_more_yes}
-use Rattle.std.proofs.lemmas.Option.{get_or_from_slice_get, same_Some, slice_get-map, slice_get_within}
-use Rattle.cap_base.specs.Cascade.{holds_of}
-use Rattle.cap_base.proofs.lists.Filters.{map_same, map_twice}
-use Rattle.cap_model.specs.Asks.{same_key}
-use Rattle.cap_model.specs.declared.ask.Key.{Key}
-use Rattle.cap_model.specs.Flat.{Reservation, is_for}
-use Rattle.cap_model.specs.Sight.{NodeSight}
-use Rattle.cap_copy.specs.declared.ranges.AskRange.{AskRange}
-use Rattle.cap_copy.specs.AskEntry.{AskEntry}
-use Rattle.cap_copy.specs.AskRanges.{AreInside, AreRanges, IsRangeOf, LiesIn}
-use Rattle.cap_copy.specs.Entries.{beside, beside_one, reserved_on}
+use Rattle.cap_copy.proofs.Prelude.{◌≡◌, ℕ, suc, ◌+◌, ◌-◌, ◌<◌, ◌≤◌, Bool, true, false, cond, List, [], ◌∷◌, length, refl, sym, ◌∙◌, ap, subst, arith, inl, inr, take, Option, Some, None, ◌==◌, map, option_map, nat_lt, slice_get, set, and_parts, eq-eqb, eqb-true, nat_tests, length-map, count_by_more_no, count_by_more_yes, get_or_from_slice_get, same_Some, slice_get-map, slice_get_within, holds_of, map_same, map_twice, same_key, Key, Reservation, is_for, NodeSight, AskRange, AskEntry, AreInside, AreRanges, IsRangeOf, LiesIn, beside, beside_one, reserved_on}
 use Rattle.cap_copy.proofs.Ranging.{set_here, set_other}
 
 -- two lists are the same where each index has the same in both

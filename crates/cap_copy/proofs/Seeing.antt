@@ -1,33 +1,5 @@
 -- Applications as a snapshot keeps them, and their asks among those of all.
-use Rattle.std.proofs.Common.{◌≡◌, ℕ, ◌+◌, ◌-◌, ◌≤◌, List, [], ◌∷◌, ◌++◌, length, length-append, inl, inr, map, take, drop, refl, sym, ◌∙◌, ap, subst, arith}
-use Rattle.std.specs.Prelude.{Option, Some, None, option_map, ◌&&◌}
-use Rattle.std.specs.List.{list_all, slice_get, take-map}
-use Rattle.std.specs.Option.{option_map_or}
-use Rattle.std.proofs.lemmas.List.{drop-append-le, drop-map, length-drop, length-map, length-take-le, map-append, map_push, take-append-le, take_all}
-use Rattle.std.proofs.lemmas.List.Concat.{flat_map-cons}
-use Rattle.std.proofs.lemmas.List.Elements.{All-push}
-use Rattle.std.proofs.lemmas.Option.{slice_get-map}
-use Rattle.std.proofs.Math.Seq.{drop-append_seam}
-use Rattle.cap_vector.specs.Vector.{amounts_exchanged}
-use Rattle.cap_base.specs.Cascade.{holds_of}
-use Rattle.cap_base.specs.LimitTests.{fits_maximum, fits_user_limit}
-use Rattle.cap_base.specs.Members.{IsRising}
-use Rattle.cap_base.proofs.lists.Members.{IsIn, of_map}
-use Rattle.cap_model.specs.Asks.{Ask}
-use Rattle.cap_model.specs.Flat.{App}
-use Rattle.cap_model.specs.Sight.{NodeSight}
-use Rattle.cap_tree.specs.Queue.{Queue, stays_in_maximum, use_of, user_row}
-use Rattle.cap_tree.specs.Rows.{Row, items_to}
-use Rattle.cap_tree.specs.Spot.{HoldsOfItem, IsPosition, item_at, path_at}
-use Rattle.cap_asks.specs.Accounts.{HeldApp}
-use Rattle.cap_tree.specs.Limits.{stays_in_limits}
-use Rattle.cap_copy.specs.Limits.{limit_in, limit_of, no_limit, queue_use}
-use Rattle.cap_copy.specs.SeenApp.{AreSeen, HaveAsks, SeenApp, range_in, user_used}
-use Rattle.cap_copy.specs.Snapshot.{QueueUse, asks_between, stays_within}
-use Rattle.cap_copy.specs.declared.ranges.AskRange.{AskRange}
-use Rattle.cap_copy.specs.AskEntry.{AskEntry}
-use Rattle.cap_copy.specs.AskRanges.{AreApart, AreRanges}
-use Rattle.cap_copy.specs.Entries.{ask_entries, ask_entry, asks_at, asks_of, beside, reserved_on}
+use Rattle.cap_copy.proofs.Prelude.{◌≡◌, ℕ, ◌+◌, ◌-◌, ◌≤◌, List, [], ◌∷◌, ◌++◌, length, length-append, inl, inr, map, take, drop, refl, sym, ◌∙◌, ap, subst, arith, Option, Some, None, option_map, ◌&&◌, list_all, slice_get, take-map, option_map_or, drop-append-le, drop-map, length-drop, length-map, length-take-le, map-append, map_push, take-append-le, take_all, flat_map-cons, All-push, slice_get-map, drop-append_seam, amounts_exchanged, holds_of, fits_maximum, fits_user_limit, IsRising, IsIn, of_map, Ask, App, NodeSight, Queue, stays_in_maximum, use_of, user_row, Row, items_to, HoldsOfItem, IsPosition, item_at, path_at, HeldApp, stays_in_limits, limit_in, limit_of, no_limit, queue_use, AreSeen, HaveAsks, SeenApp, range_in, user_used, QueueUse, asks_between, stays_within, AskRange, AskEntry, AreApart, AreRanges, ask_entries, ask_entry, asks_at, asks_of, beside, reserved_on}
 use Rattle.cap_copy.proofs.Blocks.{rising_apart}
 use Rattle.cap_copy.proofs.LoopSteps.{one_more}
 use Rattle.cap_copy.proofs.Ranging.{pushed, ranges_more}

@@ -1,31 +1,5 @@
 -- Asks in the order of service, where applications are in it by their queues.
-use Rattle.std.proofs.Common.{◌≡◌, ℕ, ◌<◌, ◌≤◌, true, false, List, [], ◌∷◌, ◌++◌, refl, sym, subst, ◌∙◌, ap, inl, inr, arith}
-use Rattle.std.specs.Prelude.{Option, Some, None, drop, flat_map, map, option_map, unwrap_or}
-use Rattle.std.specs.List.{slice_get}
-use Rattle.std.specs.Option.{option_map_or}
-use Rattle.std.specs.Ordering.{MatchOrdering, is_gt, is_lt, nat_cmp, ordering_then}
-use Rattle.std.specs.declared.cmp.Ordering.{Ordering}
-use Rattle.std.specs.declared.cmp.Ordering.TheVariants.{Less, Equal, Greater}
-use Rattle.std.specs.Cmp.{nat_cmp_is}
-use Rattle.std.specs.Cmp.Lexicographic.{slice_cmp}
-use Rattle.std.proofs.lemmas.Cmp.{lists_total, nat_cmp_total, ranked}
-use Rattle.std.proofs.lemmas.List.Concat.{flat_map-cons}
-use Rattle.cap_model.specs.Asks.{Ask, ask_key_cmp}
-use Rattle.cap_base.specs.Members.{IsRising}
-use Rattle.cap_model.specs.Choice.{level_of}
-use Rattle.cap_base.specs.Levels.{Level, level_cmp}
-use Rattle.cap_model.specs.Flat.{App}
-use Rattle.cap_model.specs.Sight.{NodeSight, queues_to, seen_app}
-use Rattle.cap_model.specs.declared.ask.Key.{Key}
-use Rattle.cap_model.proofs.choice.Orders.{not_after_itself}
-use Rattle.cap_base.proofs.Levels.{level_cmp_total}
-use Rattle.cap_base.proofs.lists.Members.{IsIn, each_of, in_either, of_each, of_map}
-use Rattle.cap_tree.specs.Service.{levels_at}
-use Rattle.cap_tree.specs.ServiceOrder.{AreInOrder, position_nth, waiting_cmp}
-use Rattle.cap_asks.specs.Accounts.{AreAfter, AreKept, is_before}
-use Rattle.cap_copy.specs.Entries.{ask_entries, ask_entry, asks_at, asks_of}
-use Rattle.cap_copy.specs.AskEntry.{AskEntry}
-use Rattle.cap_copy.specs.Snapshot.{AreServedInOrder, Seen, served_cmp, sight_in}
+use Rattle.cap_copy.proofs.Prelude.{◌≡◌, ℕ, ◌<◌, ◌≤◌, true, false, List, [], ◌∷◌, ◌++◌, refl, sym, subst, ◌∙◌, ap, inl, inr, arith, Option, Some, None, drop, flat_map, map, option_map, unwrap_or, slice_get, option_map_or, MatchOrdering, is_gt, is_lt, nat_cmp, ordering_then, Ordering, Less, Equal, Greater, nat_cmp_is, slice_cmp, lists_total, nat_cmp_total, ranked, flat_map-cons, Ask, ask_key_cmp, IsRising, level_of, Level, level_cmp, App, NodeSight, queues_to, seen_app, Key, not_after_itself, level_cmp_total, IsIn, each_of, in_either, of_each, of_map, levels_at, AreInOrder, position_nth, waiting_cmp, AreAfter, AreKept, is_before, ask_entries, ask_entry, asks_at, asks_of, AskEntry, AreServedInOrder, Seen, served_cmp, sight_in}
 use Rattle.cap_copy.proofs.Blocks.{rising_apart}
 
 not_after_then : (a b : Ordering) → is_gt a ≡ false → is_gt b ≡ false → is_gt (ordering_then a b) ≡ false

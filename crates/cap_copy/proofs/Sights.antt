@@ -1,41 +1,5 @@
 -- A snapshot of the parts of a cluster is whole, and its sight is that of the parts.
-use Rattle.std.proofs.Common.{◌≡◌, ℕ, ◌<◌, ◌≤◌, Bool, true, false, ◌&&◌, List, [], ◌∷◌, refl, sym, subst, ◌∙◌, ap, inl, inr, length, arith}
-use Rattle.std.specs.Prelude.{Option, Some, None, bytes_eq, cond, drop, find, flat_map, map, not, option_map, unwrap_or, ◌==◌}
-use Rattle.std.specs.List.{All, slice_get}
-use Rattle.std.specs.Option.{option_map_or}
-use Rattle.std.proofs.lemmas.Bool.{and_parts, eqb-true}
-use Rattle.std.proofs.lemmas.List.{drop-map, length-map, nil_from_length}
-use Rattle.std.proofs.lemmas.Option.{same_Some, slice_get-map, slice_get_within}
-use Rattle.cap_model.specs.Asks.{Ask, same_key}
-use Rattle.cap_base.specs.Members.{IsRising}
-use Rattle.cap_model.specs.Choice.{level_of}
-use Rattle.cap_model.specs.Flat.{App, AppTable, ClusterNode, NodeTable, ask_at}
-use Rattle.cap_base.specs.Paths.{is_under}
-use Rattle.cap_model.specs.Sight.{AppSight, NodeSight, QueueSight, app_sight, queues_to, seen_app}
-use Rattle.cap_model.proofs.calls.KeptAsks.{same_key_itself}
-use Rattle.cap_base.proofs.lists.Filters.{filter_mapped, filter_none, find_mapped_at, length-kept, map_twice}
-use Rattle.cap_base.proofs.lists.Members.{IsIn, each_of, in_filter, in_flat_map, in_map, of_each, of_filter, of_map}
-use Rattle.cap_model.proofs.lists.Numbered.{found_by_number, rising_kept}
-use Rattle.cap_tree.specs.Queue.{Queue}
-use Rattle.cap_tree.specs.Rows.{AreRows, IsAt, Row, items_to, rows_to}
-use Rattle.cap_tree.specs.Service.{levels_at}
-use Rattle.cap_tree.specs.Seen.{SeenRows}
-use Rattle.cap_tree.specs.ServiceOrder.{position_nth, waiting_cmp}
-use Rattle.cap_tree.specs.Spot.{IsPosition, path_at}
-use Rattle.cap_tree.proofs.RowPaths.{at_position}
-use Rattle.cap_asks.specs.Apps.{account_of, is_waiting, position_of, waiting_of}
-use Rattle.cap_asks.specs.Accounts.{Account, AreKept, HeldApp}
-use Rattle.cap_asks.proofs.Keeping.{before_not_same}
-use Rattle.cap_copy.specs.Entries.{ask_entries, asks_at, asks_of, asks_of_all, beside, indexes, registered_of}
-use Rattle.cap_copy.specs.Limits.{limit_in, limit_of, no_limit, queue_use}
-use Rattle.cap_copy.specs.Order.{service_order}
-use Rattle.cap_copy.specs.SeenApp.{SeenApp, range_in, user_used}
-use Rattle.cap_copy.specs.Sources.{IsCopy, IsStored, Parts, seen_of}
-use Rattle.cap_copy.specs.declared.ranges.AskRange.{AskRange}
-use Rattle.cap_copy.specs.AskEntry.{AskEntry}
-use Rattle.cap_copy.specs.AskRanges.{AreRanges}
-use Rattle.cap_copy.specs.Snapshot.{AreServedInOrder, AreSkips, IsAskEntry, IsLimitOf, IsSnapshot, QueueUse, Seen, asks_between, asks_for, asks_nth, asks_served, queue_seen, sight_in}
-use Rattle.cap_copy.specs.Taking.{IsSnapshotOf, node_seen}
+use Rattle.cap_copy.proofs.Prelude.{◌≡◌, ℕ, ◌<◌, ◌≤◌, Bool, true, false, ◌&&◌, List, [], ◌∷◌, refl, sym, subst, ◌∙◌, ap, inl, inr, length, arith, Option, Some, None, bytes_eq, cond, drop, find, flat_map, map, not, option_map, unwrap_or, ◌==◌, All, slice_get, option_map_or, and_parts, eqb-true, drop-map, length-map, nil_from_length, same_Some, slice_get-map, slice_get_within, Ask, same_key, IsRising, level_of, App, AppTable, ClusterNode, NodeTable, ask_at, is_under, AppSight, NodeSight, QueueSight, app_sight, queues_to, seen_app, same_key_itself, filter_mapped, filter_none, find_mapped_at, length-kept, map_twice, IsIn, each_of, in_filter, in_flat_map, in_map, of_each, of_filter, of_map, found_by_number, rising_kept, Queue, AreRows, IsAt, Row, items_to, rows_to, levels_at, SeenRows, position_nth, waiting_cmp, IsPosition, path_at, at_position, account_of, is_waiting, position_of, waiting_of, Account, AreKept, HeldApp, before_not_same, ask_entries, asks_at, asks_of, asks_of_all, beside, indexes, registered_of, limit_in, limit_of, no_limit, queue_use, service_order, SeenApp, range_in, user_used, IsCopy, IsStored, Parts, seen_of, AskRange, AskEntry, AreRanges, AreServedInOrder, AreSkips, IsAskEntry, IsLimitOf, IsSnapshot, QueueUse, Seen, asks_between, asks_for, asks_nth, asks_served, queue_seen, sight_in, IsSnapshotOf, node_seen}
 use Rattle.cap_copy.proofs.Blocks.{asks_for_is, each_index, index_below, rising_apart}
 use Rattle.cap_copy.proofs.Found.{row_found}
 use Rattle.cap_copy.proofs.Order.{all_ordered, below_of, each_once, each_there, waiting_total}

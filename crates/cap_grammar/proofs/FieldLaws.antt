@@ -1,16 +1,6 @@
 -- A field that is read is the field that was written, and what was written is read again.
-use Rattle.std.proofs.Common.{◌≡◌, ℕ, zero, suc, ◌+◌, ◌-◌, ◌^◌, ◌<◌, ◌≤◌, Bool, true, false, cond, List, [], ◌∷◌, ◌++◌, length, get_or, take, drop, Option, Some, None, refl, sym, ap, subst, ◌∙◌, append_assoc, arith, inl, inr, ◌⊎◌}
-use Rattle.std.specs.Prelude.{◌==◌, nat_lt, nat_le}
-use Rattle.std.specs.List.{flat_map, AllByRecursion}
-use Rattle.std.specs.Int.{Width, w16, w32, w64, byte_len, from_be_bytes, to_be_bytes}
-use Rattle.std.proofs.lemmas.Bool.{cases_lt, eqb-true, ltb-false, le-ltb}
-use Rattle.std.proofs.lemmas.Bool.Decides.{nat_tests}
-use Rattle.std.proofs.lemmas.List.{take_at, drop_at, take-append-drop, length-append, length-replicate, length-take, get_or-drop, get_or-take, get_or_past, append-nil, nil_from_length}
-use Rattle.std.proofs.lemmas.Nat.{be_bytes_2, be_bytes_4, be_bytes_8, from_be_bytes-to_be_bytes_2, from_be_bytes-to_be_bytes_4, from_be_bytes-to_be_bytes_8}
-use Rattle.cap_vector.specs.Vector.{IsVector, zeros}
-use Rattle.cap_grammar.specs.Shown.{shown_amounts, IsShownVector}
-use Rattle.cap_grammar.specs.Spelling.{text, resource, flag, list_bytes, FitsListed}
-use Rattle.cap_grammar.specs.Fields.{◌>>=◌, number_at, byte_at, flag_of_byte, flag_at, text_at, amount_at, amounts_at, pair_at, passing_at, times_at, all_at, counted_at}
+use Rattle.cap_grammar.proofs.Prelude.{◌≡◌, ℕ, zero, suc, ◌+◌, ◌-◌, ◌^◌, ◌<◌, ◌≤◌, Bool, true, false, cond, List, [], ◌∷◌, ◌++◌, length, get_or, take, drop, Option, Some, None, refl, sym, ap, subst, ◌∙◌, append_assoc, arith, inl, inr, ◌⊎◌, ◌==◌, nat_lt, nat_le, flat_map, AllByRecursion, Width, w16, w32, w64, byte_len, from_be_bytes, to_be_bytes, cases_lt, eqb-true, ltb-false, le-ltb, nat_tests, take_at, drop_at, take-append-drop, length-replicate, length-take, get_or-drop, get_or-take, get_or_past, append-nil, nil_from_length, be_bytes_2, be_bytes_4, be_bytes_8, from_be_bytes-to_be_bytes_2, from_be_bytes-to_be_bytes_4, from_be_bytes-to_be_bytes_8, IsVector, zeros, shown_amounts, IsShownVector, text, resource, flag, list_bytes, FitsListed, ◌>>=◌, number_at, byte_at, flag_of_byte, flag_at, text_at, amount_at, amounts_at, pair_at, passing_at, times_at, all_at, counted_at}
+use Rattle.std.proofs.lemmas.List.{length-append}
 
 abbrev pub AreBytes : List ℕ → Type 0
 AreBytes bytes = (i : ℕ) → get_or bytes i 0 < 256

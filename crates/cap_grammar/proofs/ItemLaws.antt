@@ -1,15 +1,5 @@
 -- Where the lists of a payload stand, and which are not empty.
-use Rattle.std.proofs.Common.{◌≡◌, ℕ, zero, suc, ◌+◌, ◌<◌, Bool, true, List, [], ◌∷◌, length, take, drop, Option, Some, None, sym, ap, subst, ◌∙◌, arith, inl, inr, ◌⊎◌}
-use Rattle.std.specs.Prelude.{nat_lt, nat_le, if◌then◌else◌, slice_index}
-use Rattle.std.specs.Int.{Width, w16, w32, w64, byte_len, from_be_bytes}
-use Rattle.std.proofs.lemmas.Bool.{lt-ltb}
-use Rattle.std.proofs.Math.Seq.{drop-drop}
-use Rattle.cap_base.specs.Cascade.{holds_of}
-use Rattle.cap_base.specs.Limits.{resources}
-use Rattle.cap_grammar.specs.Versions.{is_version}
-use Rattle.cap_grammar.specs.Fields.{byte_at, number_at, pair_at, passing_at, times_at, counted_at}
-use Rattle.cap_grammar.specs.Bodies.{HasItemsAt, ListsItems}
-use Rattle.cap_grammar.specs.Reading.{CarriesItems, head_at}
+use Rattle.cap_grammar.proofs.Prelude.{◌≡◌, ℕ, zero, suc, ◌+◌, ◌<◌, Bool, true, List, [], ◌∷◌, length, take, drop, Option, Some, None, sym, ap, subst, ◌∙◌, arith, inl, inr, ◌⊎◌, nat_lt, nat_le, if◌then◌else◌, slice_index, Width, w16, w32, w64, byte_len, from_be_bytes, lt-ltb, drop-drop, holds_of, resources, is_version, byte_at, number_at, pair_at, passing_at, times_at, counted_at, HasItemsAt, ListsItems, CarriesItems, head_at}
 use Rattle.cap_grammar.proofs.FieldLaws.{bind_then, guard_else, guard_then}
 use Rattle.cap_grammar.proofs.RequestLaws.{second_is_kind}
 use Rattle.cap_grammar.proofs.VersionLaws.{one_or_two}

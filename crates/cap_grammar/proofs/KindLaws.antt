@@ -1,24 +1,6 @@
 -- What has a case for each kind of request and of reply: bodies are read again as they were spelled, and are bytes.
-use Rattle.std.proofs.Common.{◌≡◌, ℕ, ◌^◌, ◌<◌, ◌≤◌, Bool, true, List, [], ◌++◌, length, map, Some, None, refl, sym, ap, subst, ◌∙◌, arith, inl, inr}
-use Rattle.std.specs.Prelude.{◌==◌, if◌then◌else◌, Option, option_map}
-use Rattle.std.specs.Int.{w16, w32, w64, to_be_bytes}
-use Rattle.std.proofs.lemmas.Bool.{eqb-true}
-use Rattle.std.proofs.lemmas.List.{nil_from_length}
-use Rattle.std.proofs.lemmas.List.Elements.{All-nil}
-use Rattle.cap_model.specs.Asks.{Ask}
-use Rattle.cap_model.specs.declared.request.Request.{Request}
-use Rattle.cap_model.specs.Refusals.{status_of}
-use Rattle.cap_model.specs.declared.refusal.Refusal.{Refusal}
-use Rattle.cap_model.specs.declared.replies.HeartbeatReply.{HeartbeatReply}
-use Rattle.cap_model.specs.News.{Reply, AllocateReply}
+use Rattle.cap_grammar.proofs.Prelude.{◌≡◌, ℕ, ◌^◌, ◌<◌, ◌≤◌, Bool, true, List, [], ◌++◌, length, map, Some, None, refl, sym, ap, subst, ◌∙◌, arith, inl, inr, ◌==◌, if◌then◌else◌, Option, option_map, w16, w32, w64, to_be_bytes, eqb-true, nil_from_length, All-nil, Ask, Request, status_of, Refusal, HeartbeatReply, Reply, AllocateReply, IsBytes, amount_max, shown_amounts, shown_grant, shown_news, shown, IsShownVector, list_bytes, byte, ask, FitsAsk, FitsNumber, text, resource, flag, IsKind, kind_of, request_body, FitsRequest, allocate_bytes, FitsAllocated, beat, FitsBeat, queue_report, cluster_report, IsOfKind, refusal_body, refusal_bytes, FitsRefusal, reply_body, FitsReply, amounts_in, ◌>>=◌, number_at, byte_at, all_at, submission_at, submit_at, register_master_at, finish_master_at, wishes_at, allocate_at, report_at, heartbeat_at, node_gone_at, registration_at, register_node_at, path_text_at, queue_info_at, queue_state_at, set_queue_state_at, cluster_info_at, lines_at, refresh_at, body_at}
 use Rattle.cap_model.specs.declared.reply.ReplyWith.TheVariants as Reply
-use Rattle.cap_frames.specs.Stream.{IsBytes}
-use Rattle.cap_vector.specs.Vector.{amount_max}
-use Rattle.cap_grammar.specs.Shown.{shown_amounts, shown_grant, shown_news, shown, IsShownVector}
-use Rattle.cap_grammar.specs.Spelling.{list_bytes, byte, ask, FitsAsk, FitsNumber, text, resource, flag, IsKind, kind_of, request_body, FitsRequest, allocate_bytes, FitsAllocated, beat, FitsBeat, queue_report, cluster_report, IsOfKind, refusal_body, refusal_bytes, FitsRefusal, reply_body, FitsReply}
-use Rattle.cap_grammar.specs.Versions.{amounts_in}
-use Rattle.cap_grammar.specs.Fields.{◌>>=◌, number_at, byte_at, all_at}
-use Rattle.cap_grammar.specs.Bodies.{submission_at, submit_at, register_master_at, finish_master_at, wishes_at, allocate_at, report_at, heartbeat_at, node_gone_at, registration_at, register_node_at, path_text_at, queue_info_at, queue_state_at, set_queue_state_at, cluster_info_at, lines_at, refresh_at, body_at}
 use Rattle.cap_grammar.proofs.FieldLaws.{AreBytes, bind_some, guard_then, chosen, IsField, all_takes, all_again, is_u32, is_u64}
 use Rattle.cap_grammar.proofs.RequestFields.{Submission, FitsSubmission, submission, is_submission, Wishes, FitsWishes, wishes, is_wishes, NodeReport, FitsNodeReport, node_report, is_node_report, Registration, FitsRegistration, registration, is_registration, FitsPath, is_path_field, State, FitsState, state, is_state, FitsLines, is_lines}
 use Rattle.cap_grammar.proofs.ReplyFields.{is_lines_fault, refusal_at, shown_resource, shown_sum, grants_fit, limit_to, maximum_of, maximum_again, limit_fits, Report, FitsReport, report_of, queue_report_at, is_report, Bounds, bounds_at, bounds_of, FitsBounds, is_bounds, Allocated, allocated_at, allocated_again, Beat, beat_at, beat_of, FitsBeatParts, is_beat, Info, FitsInfo, info_of, info_at, is_info}

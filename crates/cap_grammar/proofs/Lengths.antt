@@ -1,16 +1,5 @@
 -- How long the spelling of news is.
-use Rattle.std.proofs.Common.{◌≡◌, ℕ, ◌*◌, ◌≤◌, true, List, [], ◌∷◌, ◌++◌, length, take, length-append, arith}
-use Rattle.std.specs.Prelude.{nat_le, nat_lt, ◌&&◌}
-use Rattle.std.specs.List.{flat_map, list_all, AllByRecursion}
-use Rattle.std.specs.Int.{w32, w64, to_be_bytes}
-use Rattle.std.proofs.lemmas.Bool.{and_parts}
-use Rattle.std.proofs.lemmas.Bool.Decides.{nat_tests}
-use Rattle.std.proofs.lemmas.List.{length-take}
-use Rattle.cap_base.specs.Texts.{is_graphic}
-use Rattle.cap_model.specs.News.{Grant}
-use Rattle.cap_model.specs.declared.news.End.{End}
-use Rattle.cap_grammar.specs.Texts.{is_place}
-use Rattle.cap_grammar.specs.Spelling.{text, resource, grant, FitsGrant, end}
+use Rattle.cap_grammar.proofs.Prelude.{◌≡◌, ℕ, ◌*◌, ◌≤◌, true, List, [], ◌∷◌, ◌++◌, length, take, length-append, arith, nat_le, nat_lt, ◌&&◌, flat_map, list_all, AllByRecursion, w32, w64, to_be_bytes, and_parts, nat_tests, length-take, is_graphic, Grant, End, is_place, text, resource, grant, FitsGrant, end}
 
 length_amounts : (v : List ℕ) → length (flat_map (to_be_bytes w64) v) ≡ 8 * length v
 length_amounts [] = omega arith

@@ -1,3 +1,4 @@
+mod Prelude
 pub mod VersionLaws
 pub mod Lengths
 pub mod ListLaws

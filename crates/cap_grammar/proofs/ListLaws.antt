@@ -1,9 +1,5 @@
 -- Fields that are read one after the other.
-use Rattle.std.proofs.Common.{◌≡◌, ℕ, zero, suc, ◌+◌, ◌-◌, ◌<◌, ◌≤◌, List, [], ◌∷◌, ◌++◌, length, take, drop, Option, Some, None, refl, sym, ap, ◌∙◌, append_assoc, arith}
-use Rattle.std.specs.Prelude.{nat_le}
-use Rattle.std.specs.Int.{Width}
-use Rattle.std.proofs.lemmas.List.{append-nil}
-use Rattle.cap_grammar.specs.Fields.{◌>>=◌, byte_at, number_at, passing_at, times_at, counted_at}
+use Rattle.cap_grammar.proofs.Prelude.{◌≡◌, ℕ, zero, suc, ◌+◌, ◌-◌, ◌<◌, ◌≤◌, List, [], ◌∷◌, ◌++◌, length, take, drop, Option, Some, None, refl, sym, ap, ◌∙◌, append_assoc, arith, nat_le, Width, append-nil, ◌>>=◌, byte_at, number_at, passing_at, times_at, counted_at}
 
 -- what n more fields give after those that were read
 abbrev pub more_at : {A : Type 0} → List A → ℕ → (List ℕ → Option (A × List ℕ)) → List ℕ → Option (List A × List ℕ)

@@ -1,21 +1,7 @@
 -- The fields of replies, each with what spells it: refusals, and what calls give that is more than a number. No function reads
 -- replies so: these readers serve the laws alone.
-use Rattle.std.proofs.Common.{◌≡◌, ℕ, ◌^◌, ◌<◌, ◌≤◌, ◌+◌, ◌-◌, List, [], ◌∷◌, ◌++◌, length, Option, Some, None, map, refl, sym, ap, subst, ◌∙◌, append_assoc, true, arith, suc, Bool}
-use Rattle.std.specs.Prelude.{◌==◌, if◌then◌else◌, is_some, unwrap_or, option_map, IfSome}
-use Rattle.std.specs.List.{flat_map, AllByRecursion}
-use Rattle.std.specs.Int.{w16, w32, w64, to_be_bytes}
-use Rattle.std.proofs.lemmas.List.{append-nil, length-replicate, replicate-append-replicate, take-replicate}
-use Rattle.cap_vector.specs.Vector.{IsResource, IsSum, amount_max, sum_max, zeros}
-use Rattle.cap_base.specs.Limits.{news_max}
-use Rattle.cap_model.specs.declared.refusal.Refusal.{Refusal}
-use Rattle.cap_model.specs.declared.refusal.Refusal.TheVariants.{BadSettings, UnknownQueue, NotLeaf, QueueStopped, TooManyApplications, UnknownApplication, AlreadyRegistered, NotRegistered, BadResponseId, AskTooLarge, TooManyAsks, UnknownNode, HostTaken, TotalTooLarge, TooManyNodes, ZeroResource, NumbersSpent, OtherQueues, NoMemory}
-use Rattle.cap_model.specs.News.{Grant, cause_number}
-use Rattle.cap_model.specs.declared.news.End.{End}
-use Rattle.cap_model.specs.declared.news.Cause.{Cause}
-use Rattle.cap_grammar.specs.Texts.{is_place}
-use Rattle.cap_grammar.specs.Shown.{shown_amounts, shown_grant, IsShownVector}
-use Rattle.cap_grammar.specs.Spelling.{counted_list, FitsListed, grant, FitsGrant, end, FitsEnd, text, resource, flag, byte, FitsByte}
-use Rattle.cap_grammar.specs.Fields.{◌>>=◌, byte_at, flag_at, number_at, amounts_at, text_at, pair_at, passing_at, times_at}
+use Rattle.cap_grammar.proofs.Prelude.{◌≡◌, ℕ, ◌^◌, ◌<◌, ◌≤◌, ◌+◌, ◌-◌, List, [], ◌∷◌, ◌++◌, length, Option, Some, None, map, refl, sym, ap, subst, ◌∙◌, append_assoc, true, arith, suc, Bool, ◌==◌, if◌then◌else◌, is_some, unwrap_or, option_map, IfSome, flat_map, AllByRecursion, w16, w32, w64, to_be_bytes, append-nil, length-replicate, replicate-append-replicate, take-replicate, IsResource, IsSum, amount_max, sum_max, zeros, news_max, Refusal, BadSettings, UnknownQueue, NotLeaf, QueueStopped, TooManyApplications, UnknownApplication, AlreadyRegistered, NotRegistered, BadResponseId, AskTooLarge, TooManyAsks, UnknownNode, HostTaken, TotalTooLarge, TooManyNodes, ZeroResource, NumbersSpent, OtherQueues, Grant, cause_number, End, Cause, is_place, shown_amounts, shown_grant, IsShownVector, counted_list, FitsListed, grant, FitsGrant, end, FitsEnd, text, resource, flag, byte, FitsByte, ◌>>=◌, byte_at, flag_at, number_at, amounts_at, text_at, pair_at, passing_at, times_at}
+use Rattle.cap_model.specs.declared.refusal.Refusal.TheVariants.{NoMemory}
 use Rattle.cap_grammar.proofs.ShownLaws.{how_many}
 use Rattle.cap_grammar.proofs.FieldLaws.{IsField, is_pair, is_byte, is_flag, is_u16, is_u32, is_u64, is_amounts, is_text_passing, is_times, is_made, shown_is_vector, zeros_within}
 

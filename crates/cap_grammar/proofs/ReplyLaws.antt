@@ -1,18 +1,7 @@
 -- A reply is read again from its spelling, so no two share one.
-use Rattle.std.proofs.Common.{◌≡◌, ℕ, ◌<◌, List, ◌∷◌, ◌++◌, Option, Some, refl, sym, ap, subst, ◌∙◌, true, arith}
-use Rattle.std.specs.Int.{w32, to_be_bytes}
-use Rattle.cap_base.specs.Limits.{resources}
-use Rattle.cap_model.specs.News.{Reply}
-use Rattle.cap_frames.specs.Stream.{IsBytes}
-use Rattle.cap_grammar.specs.Shown.{shown}
-use Rattle.cap_grammar.specs.Spelling.{reply_body, reply_bytes, IsOfKind, FitsReply, IsReply, fault_reply}
-use Rattle.cap_grammar.specs.Answers.{Says}
-use Rattle.cap_grammar.specs.declared.head.Head.{Head}
-use Rattle.cap_grammar.specs.Versions.{amounts_in, is_version}
+use Rattle.cap_grammar.proofs.Prelude.{◌≡◌, ℕ, ◌<◌, List, ◌∷◌, ◌++◌, Option, Some, refl, sym, ap, subst, ◌∙◌, true, arith, w32, to_be_bytes, resources, Reply, IsBytes, shown, reply_body, reply_bytes, IsOfKind, FitsReply, IsReply, fault_reply, Says, Head, amounts_in, is_version, ◌>>=◌, head_at}
 use Rattle.cap_grammar.specs.declared.answers.Answer as declared
 use Rattle.cap_grammar.specs.declared.answers.Answer.TheVariants as answers
-use Rattle.cap_grammar.specs.Fields.{◌>>=◌}
-use Rattle.cap_grammar.specs.Reading.{head_at}
 use Rattle.cap_grammar.proofs.FieldLaws.{some_is}
 use Rattle.cap_grammar.proofs.RequestFields.{FitsHead, is_head}
 use Rattle.cap_grammar.proofs.ShownLaws.{body_shown, shown_of_kind, of_kind_shown, all_of_reply}

@@ -1,15 +1,5 @@
 -- The fields of requests, each with what spells it: the bodies of kinds that have more than a number, and the head.
-use Rattle.std.proofs.Common.{◌≡◌, ℕ, ◌^◌, ◌<◌, ◌≤◌, Bool, true, List, [], ◌∷◌, ◌++◌, refl, arith}
-use Rattle.std.specs.Int.{w16, w32, w64, to_be_bytes}
-use Rattle.cap_vector.specs.Vector.{amount_max}
-use Rattle.cap_base.specs.Limits.{asks_max, numbers_max, text_max}
-use Rattle.cap_model.specs.Asks.{Ask}
-use Rattle.cap_grammar.specs.Texts.{is_host, is_rack, is_path, is_user, is_place}
-use Rattle.cap_grammar.specs.Shown.{IsShownVector}
-use Rattle.cap_grammar.specs.Spelling.{list_bytes, FitsListed, ask, FitsAsk, FitsNumber, byte, FitsByte, text, resource, flag}
-use Rattle.cap_grammar.specs.Fields.{number_at, byte_at, text_at, flag_at, amounts_at, pair_at, passing_at, counted_at}
-use Rattle.cap_grammar.specs.Bodies.{submission_at, wish_at, ask_of, ask_at, wishes_at, registration_at, report_at, path_text_at, queue_state_at, lines_at}
-use Rattle.cap_grammar.specs.Reading.{head_at}
+use Rattle.cap_grammar.proofs.Prelude.{◌≡◌, ℕ, ◌^◌, ◌<◌, ◌≤◌, Bool, true, List, [], ◌∷◌, ◌++◌, refl, arith, w16, w32, w64, to_be_bytes, amount_max, asks_max, numbers_max, text_max, Ask, is_host, is_rack, is_path, is_user, is_place, IsShownVector, list_bytes, FitsListed, ask, FitsAsk, FitsNumber, byte, FitsByte, text, resource, flag, number_at, byte_at, text_at, flag_at, amounts_at, pair_at, passing_at, counted_at, submission_at, wish_at, ask_of, ask_at, wishes_at, registration_at, report_at, path_text_at, queue_state_at, lines_at, head_at}
 use Rattle.cap_grammar.proofs.FieldLaws.{IsField, is_pair, is_byte, is_flag, is_u32, is_u64, is_amounts, is_text_passing, is_made, is_counted, wide16, wide32}
 
 -- ---- Submit

@@ -1,21 +1,6 @@
 -- What is read is spelled so, and what is spelled so is read, and no request begins another.
-use Rattle.std.proofs.Common.{◌≡◌, ℕ, zero, suc, List, [], ◌∷◌, ◌++◌, Some, true, refl, sym, ap, subst, ◌∙◌, arith}
-use Rattle.std.specs.Prelude.{Option, Result, Ok, Err, IfOk, IsErrOf, slice_index}
-use Rattle.std.specs.Int.{w32, to_be_bytes}
-use Rattle.std.proofs.lemmas.List.{append-nil}
-use Rattle.cap_base.specs.Limits.{resources}
-use Rattle.cap_vector.specs.Vector.{IsWithin, amount_max}
-use Rattle.cap_model.specs.declared.request.Request.{Request}
-use Rattle.cap_frames.specs.Stream.{IsBytes}
-use Rattle.cap_grammar.specs.declared.fault.MessageFault.{MessageFault}
+use Rattle.cap_grammar.proofs.Prelude.{◌≡◌, ℕ, zero, suc, List, [], ◌∷◌, ◌++◌, Some, true, refl, sym, ap, subst, ◌∙◌, arith, Option, Result, Ok, Err, IfOk, IsErrOf, slice_index, w32, to_be_bytes, append-nil, resources, IsWithin, amount_max, Request, IsBytes, MessageFault, resource, kind_of, request_body, FitsRequest, request_bytes, IsRequest, IsNoRequest, Head, is_version, node_with_two_amounts, ◌>>=◌, number_at, byte_at, pair_at, amounts_at, amount_at, body_at, register_node_at, GivesInMemory, head_at, request_at}
 use Rattle.cap_grammar.specs.declared.fault.MessageFault.TheVariants as faults
-use Rattle.cap_grammar.specs.Spelling.{resource, kind_of, request_body, FitsRequest, request_bytes, IsRequest, IsNoRequest}
-use Rattle.cap_grammar.specs.declared.head.Head.{Head}
-use Rattle.cap_grammar.specs.Versions.{is_version}
-use Rattle.cap_grammar.specs.Laws.{node_with_two_amounts}
-use Rattle.cap_grammar.specs.Fields.{◌>>=◌, number_at, byte_at, pair_at, amounts_at, amount_at}
-use Rattle.cap_grammar.specs.Bodies.{body_at, register_node_at}
-use Rattle.cap_grammar.specs.Reading.{GivesInMemory, head_at, request_at}
 use Rattle.cap_grammar.proofs.FieldLaws.{AreBytes, bind_then, guard_then, some_is}
 use Rattle.cap_grammar.proofs.RequestFields.{head_bytes, FitsHead, is_head}
 use Rattle.cap_grammar.proofs.VersionLaws.{spelled_among, version_small}

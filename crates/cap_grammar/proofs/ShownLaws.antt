@@ -1,15 +1,6 @@
 -- What a reply shows of vectors is spelled as the whole reply is, and is within its bounds where the reply is.
-use Rattle.std.proofs.Common.{◌≡◌, ℕ, zero, suc, ◌-◌, List, [], ◌∷◌, ◌++◌, length, map, take, Option, Some, None, refl, ap, arith}
-use Rattle.std.specs.Prelude.{option_map, IfSome}
-use Rattle.std.specs.List.{flat_map, AllByRecursion}
-use Rattle.std.specs.Int.{w64, to_be_bytes}
-use Rattle.std.proofs.lemmas.List.{append-nil, take_all}
-use Rattle.cap_vector.specs.Vector.{zeros, IsResource}
-use Rattle.cap_model.specs.News.{Grant, AllocateReply, Reply}
+use Rattle.cap_grammar.proofs.Prelude.{◌≡◌, ℕ, zero, suc, ◌-◌, List, [], ◌∷◌, ◌++◌, length, map, take, Option, Some, None, refl, ap, arith, option_map, IfSome, flat_map, AllByRecursion, w64, to_be_bytes, append-nil, take_all, zeros, IsResource, Grant, AllocateReply, Reply, shown_amounts, shown_grant, shown_news, shown, resource, limit, grant, allocate_bytes, queue_report, cluster_report, reply_body, IsOfKind, FitsGrant, FitsReply, amounts_in}
 use Rattle.cap_model.specs.declared.reply.ReplyWith.TheVariants as Reply
-use Rattle.cap_grammar.specs.Shown.{shown_amounts, shown_grant, shown_news, shown}
-use Rattle.cap_grammar.specs.Spelling.{resource, limit, grant, allocate_bytes, queue_report, cluster_report, reply_body, IsOfKind, FitsGrant, FitsReply}
-use Rattle.cap_grammar.specs.Versions.{amounts_in}
 
 -- the first n amounts are those of the vector
 take_shown : (n m : ℕ) (v : List ℕ) → m ≡ length v - n → take n (take n v ++ zeros m) ≡ take n v

@@ -1,24 +1,5 @@
 -- What is spelled in requests and replies is bytes.
-use Rattle.std.proofs.Common.{◌≡◌, ℕ, ◌%◌, ◌<◌, ◌≤◌, Bool, true, false, Option, List, [], ◌∷◌, ◌++◌, length, take, arith}
-use Rattle.std.specs.Prelude.{nat_le, nat_lt, ◌&&◌, is_some, unwrap_or}
-use Rattle.std.specs.List.{list_all, flat_map, AllByRecursion}
-use Rattle.std.specs.Int.{Width, w16, w32, w64, to_be_bytes}
-use Rattle.std.proofs.lemmas.Bool.{and_parts}
-use Rattle.std.proofs.lemmas.Bool.Decides.{nat_tests}
-use Rattle.std.proofs.lemmas.List.Elements.{All-nil, All-cons, All-append, All-from_recursion}
-use Rattle.cap_vector.specs.Vector.{zeros}
-use Rattle.cap_base.specs.Texts.{is_graphic, is_text}
-use Rattle.cap_model.specs.News.{Grant, AllocateReply, cause_number}
-use Rattle.cap_grammar.specs.Texts.{is_host, is_rack}
-use Rattle.cap_model.specs.Asks.{Ask}
-use Rattle.cap_model.specs.declared.report.QueueReport.{QueueReport}
-use Rattle.cap_model.specs.declared.report.ClusterReport.{ClusterReport}
-use Rattle.cap_model.specs.declared.news.End.{End}
-use Rattle.cap_model.specs.declared.news.Cause.{Cause}
-use Rattle.cap_model.specs.declared.replies.HeartbeatReply.{HeartbeatReply}
-use Rattle.cap_base.specs.Limits.{news_max}
-use Rattle.cap_grammar.specs.Spelling.{list_bytes, FitsListed, ask, FitsAsk, counted_list, grant, FitsGrant, end, FitsEnd, allocate_bytes, FitsAllocated, beat, text, resource, flag, limit, queue_report, cluster_report}
-use Rattle.cap_frames.specs.Stream.{IsBytes}
+use Rattle.cap_grammar.proofs.Prelude.{◌≡◌, ℕ, ◌%◌, ◌<◌, ◌≤◌, Bool, true, false, Option, List, [], ◌∷◌, ◌++◌, length, take, arith, nat_le, nat_lt, ◌&&◌, is_some, unwrap_or, list_all, flat_map, AllByRecursion, Width, w16, w32, w64, to_be_bytes, and_parts, nat_tests, All-nil, All-cons, All-append, All-from_recursion, zeros, is_graphic, is_text, Grant, AllocateReply, cause_number, is_host, is_rack, Ask, QueueReport, ClusterReport, End, Cause, HeartbeatReply, news_max, list_bytes, FitsListed, ask, FitsAsk, counted_list, grant, FitsGrant, end, FitsEnd, allocate_bytes, FitsAllocated, beat, text, resource, flag, limit, queue_report, cluster_report, IsBytes}
 
 abbrev pub Small : ℕ → Type 0
 Small b = b < 256

@@ -1,8 +1,5 @@
 -- What is known of a number that is a version.
-use Rattle.std.proofs.Common.{◌≡◌, ℕ, ◌<◌, ◌≤◌, Bool, true, false, ◌⊎◌, inl, inr, arith}
-use Rattle.std.specs.Prelude.{◌==◌, ◌||◌, nat_le, if◌then◌else◌}
-use Rattle.std.proofs.lemmas.Bool.{and_parts, or_cases, eqb-true, leb-true}
-use Rattle.cap_grammar.specs.Versions.{amounts_in, is_version}
+use Rattle.cap_grammar.proofs.Prelude.{◌≡◌, ℕ, ◌<◌, ◌≤◌, Bool, true, false, ◌⊎◌, inl, inr, arith, ◌==◌, ◌||◌, nat_le, if◌then◌else◌, and_parts, or_cases, eqb-true, leb-true, amounts_in, is_version}
 
 -- the amounts that it spells are among the K of each vector
 pub spelled_among : (K version : ℕ) → is_version K version ≡ true → amounts_in version ≤ K

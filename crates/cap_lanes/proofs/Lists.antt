@@ -1,18 +1,7 @@
 -- Counts of workers, and what of a longer list is a worker's.
-use Rattle.std.proofs.Common.{◌≡◌, ◌≢◌, ℕ, zero, suc, ◌+◌, ◌<◌, ◌≤◌, ◌==◌, Bool, true, false, List, [], ◌∷◌, ◌++◌, length, set, refl, ap, sym, ◌∙◌, arith, append_assoc}
-use Rattle.std.specs.Prelude.{if◌then◌else◌}
-use Rattle.std.proofs.lemmas.Bool.Decides.{nat_tests}
-use Rattle.std.proofs.lemmas.List.{append-nil}
+use Rattle.cap_lanes.proofs.Prelude.{◌≡◌, ◌≢◌, ℕ, zero, suc, ◌+◌, ◌<◌, ◌≤◌, ◌==◌, Bool, true, false, List, [], ◌∷◌, ◌++◌, length, set, refl, ap, sym, ◌∙◌, arith, append_assoc, if◌then◌else◌, nat_tests, append-nil, NodeProposal, Message, Put, End, Item, Lane, View, messages_of, proposals, is_over, EndsLast, puts_if, puts_in, tagged, lane, fresh, rest_of, head_of, Fits, AllFit, times, total, WorkersBelow}
 use mathlib.Core.Option.{some, some-ne-none, some-injective}
 use lib.ListN.{get_elem?}
-use Rattle.cap_model.specs.Admission.{NodeProposal}
-use Rattle.cap_lanes.specs.declared.item.Message.{Message}
-use Rattle.cap_lanes.specs.declared.item.Message.TheVariants.{Put, End}
-use Rattle.cap_lanes.specs.declared.item.Item.{Item}
-use Rattle.cap_lanes.specs.declared.view.Lane.{Lane}
-use Rattle.cap_lanes.specs.declared.view.View.{View}
-use Rattle.cap_lanes.specs.Items.{messages_of, proposals, is_over, EndsLast, puts_if, puts_in, tagged}
-use Rattle.cap_lanes.specs.ChannelRule.{lane, fresh, rest_of, head_of, Fits, AllFit, times, total, WorkersBelow}
 
 abbrev pub one : ℕ → ℕ → ℕ
 one a x = if a == x then 1 else 0

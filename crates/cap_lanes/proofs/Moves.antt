@@ -1,16 +1,7 @@
 -- Each step keeps the rule.
-use Rattle.std.proofs.Common.{◌≡◌, ◌≢◌, ℕ, zero, suc, ◌<◌, ◌≤◌, ◌==◌, Bool, true, false, List, [], ◌∷◌, ◌++◌, length, set, refl, ap, sym, ◌∙◌, subst, ⊎_elim, arith, length-append}
-use Rattle.std.proofs.lemmas.List.{append-nil}
-use Rattle.cap_lanes.specs.declared.item.Message.{Message}
+use Rattle.cap_lanes.proofs.Prelude.{◌≡◌, ◌≢◌, ℕ, zero, suc, ◌<◌, ◌≤◌, ◌==◌, Bool, true, false, List, [], ◌∷◌, ◌++◌, length, set, refl, ap, sym, ◌∙◌, subst, ⊎_elim, arith, length-append, append-nil, Message, Pushes, Pops, Forks, Merges, Learns, at_set, at_snoc, Item, Lane, View, messages_of, is_over, EndsLast, lane, view_of, sender, nobody, first_view, without_first, only_first, with_guest, Fits, Sound, Knows, Holds, Tally, Tells, IsPut, IsTaken, lane_of}
 use mathlib.Core.Option.{some, some-ne-none, some-injective}
 use lib.ListN.{get_elem?}
-use Rattle.crossbeam_channel.specs.Fifo.{Pushes, Pops, Forks, Merges, Learns}
-use Rattle.atomic_table.proofs.Lists.{at_set, at_snoc}
-use Rattle.cap_lanes.specs.declared.item.Item.{Item}
-use Rattle.cap_lanes.specs.declared.view.Lane.{Lane}
-use Rattle.cap_lanes.specs.declared.view.View.{View}
-use Rattle.cap_lanes.specs.Items.{messages_of, is_over, EndsLast}
-use Rattle.cap_lanes.specs.ChannelRule.{lane, view_of, sender, nobody, first_view, without_first, only_first, with_guest, Fits, Sound, Knows, Holds, Tally, Tells, IsPut, IsTaken, lane_of}
 use Rattle.cap_lanes.proofs.Lists.{one, one_same, same_of, test_same, messages_of-append, times-append, times-parts, total-set, total-push, total_at, total_two, fresh_fits, fresh_once, all_fit-append, all_fit_rest, all_fit_head, all_fit_popped, all_fit_others, fits_mine, of_mine, of_other, of_pushed, of_popped, WorkersBelow-push, EndsLast-push, not_over_before}
 
 off : false ≡ true → ⊥

@@ -1,22 +1,5 @@
 -- Message callers see after a step.
-use Rattle.std.proofs.Common.{◌≡◌, ℕ, List, [], ◌∷◌, ◌++◌, false, ap, sym, ◌∙◌, subst}
-use Rattle.std.specs.Prelude.{Result, Ok, Err, MatchResult}
-use Rattle.std.proofs.lemmas.List.{append-nil}
-use Rattle.atomic_table.specs.declared.badge.Badge.{Badge}
-use Rattle.crossbeam_channel.specs.declared.flavors.array.Key.{Key}
-use Rattle.crossbeam_channel.specs.declared.flavors.array.Doing.{Doing}
-use Rattle.crossbeam_channel.specs.declared.flavors.array.Rows.{Rows}
-use Rattle.crossbeam_channel.specs.Claims.{Pass, view, IsSeatAt}
-use Rattle.cap_model.specs.Admission.{NodeProposal}
-use Rattle.cap_lanes.specs.declared.faults.PutFault.{PutFault}
-use Rattle.cap_lanes.specs.declared.item.Message.{Message}
-use Rattle.cap_lanes.specs.declared.item.Message.TheVariants.{Put, End}
-use Rattle.cap_lanes.specs.declared.item.Item.{Item}
-use Rattle.cap_lanes.specs.declared.view.View.{View}
-use Rattle.cap_lanes.specs.Items.{proposals, is_over}
-use Rattle.cap_lanes.specs.ChannelRule.{sender, lane_of, IsPut}
-use Rattle.cap_lanes.specs.Sides.{LanesId, WorkerSide, worker_side}
-use Rattle.cap_lanes.specs.Ends.{IsSender, IsOpen, IsShut, put_in}
+use Rattle.cap_lanes.proofs.Prelude.{◌≡◌, ℕ, List, [], ◌∷◌, ◌++◌, false, ap, sym, ◌∙◌, subst, Result, Ok, Err, MatchResult, append-nil, Badge, Key, Doing, Rows, Pass, view, IsSeatAt, NodeProposal, PutFault, Message, Put, End, Item, View, proposals, is_over, sender, lane_of, IsPut, LanesId, WorkerSide, worker_side, IsSender, IsOpen, IsShut, put_in}
 use Rattle.cap_lanes.proofs.Lists.{proposals-append, is_over-push_put, is_over-push_end}
 
 pub side_put : (z : LanesId) (n : ℕ) (old new : List NodeProposal) (p : NodeProposal) (s : WorkerSide) (r : Result (Unit {0}) PutFault) → worker_side z n old ≡ s → MatchResult r (λ _. new ≡ old ++ p ∷ []) (λ e. (e.back ≡ p) × (new ≡ old))

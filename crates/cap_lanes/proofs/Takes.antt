@@ -1,15 +1,5 @@
 -- Message the committer knows after it took an item.
-use Rattle.std.proofs.Common.{◌≡◌, ◌≢◌, ℕ, zero, suc, ◌+◌, ◌<◌, ◌≤◌, ◌==◌, Bool, List, [], ◌∷◌, ◌++◌, length, set, true, false, refl, ap, sym, ◌∙◌, subst, arith, append_assoc, length-append}
-use Rattle.std.specs.Prelude.{Some, slice_get}
-use Rattle.std.proofs.lemmas.Bool.Decides.{nat_tests}
-use Rattle.std.proofs.lemmas.List.{append-nil}
-use Rattle.cap_model.specs.Admission.{NodeProposal}
-use Rattle.cap_lanes.specs.declared.item.Message.TheVariants.{Put, End}
-use Rattle.cap_lanes.specs.declared.item.Item.{Item}
-use Rattle.cap_lanes.specs.declared.view.View.{View}
-use Rattle.cap_lanes.specs.Items.{messages_of, is_over, puts_if, puts_in}
-use Rattle.cap_lanes.specs.ChannelRule.{view_of, taker, IsTaken, Tally}
-use Rattle.cap_lanes.specs.Ends.{Flags}
+use Rattle.cap_lanes.proofs.Prelude.{◌≡◌, ◌≢◌, ℕ, zero, suc, ◌+◌, ◌<◌, ◌≤◌, ◌==◌, Bool, List, [], ◌∷◌, ◌++◌, length, set, true, false, refl, ap, sym, ◌∙◌, subst, arith, append_assoc, length-append, Some, slice_get, nat_tests, append-nil, NodeProposal, Put, End, Item, View, messages_of, is_over, puts_if, puts_in, view_of, taker, IsTaken, Tally, Flags}
 use Rattle.cap_lanes.proofs.Lists.{messages_of-append, of_mine, of_other, is_over-push_put, is_over-push_end, puts_in-append, length-puts_in, same_of}
 use Rattle.cap_lanes.proofs.Tallies.{weight, weight_is, AllEnded, IsSoFar}
 

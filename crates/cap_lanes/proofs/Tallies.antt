@@ -1,16 +1,5 @@
 -- With all eight lanes in one pass, what was put is what was taken and then what is held.
-use Rattle.std.proofs.Common.{◌≡◌, ℕ, zero, suc, ◌+◌, ◌<◌, ◌≤◌, ◌==◌, nat_lt, Bool, true, false, List, [], ◌∷◌, ◌++◌, length, refl, ap, sym, ◌∙◌, arith, length-append}
-use Rattle.std.specs.Prelude.{if◌then◌else◌}
-use Rattle.std.proofs.lemmas.Bool.Decides.{nat_tests}
-use Rattle.std.proofs.lemmas.List.{append-nil}
-use Rattle.cap_model.specs.Admission.{NodeProposal}
-use Rattle.cap_lanes.specs.declared.item.Item.{Item}
-use Rattle.cap_lanes.specs.declared.view.Lane.{Lane}
-use Rattle.cap_lanes.specs.Items.{messages_of, proposals, is_over, puts_in, tagged}
-use Rattle.cap_lanes.specs.declared.view.View.{View}
-use Rattle.cap_lanes.specs.ChannelRule.{view_of, AllFit, times, WorkersBelow, Tally, puts_by}
-use Rattle.cap_lanes.specs.Sides.{WorkerSide, Alike, put_by, ends_of, AllOver}
-use Rattle.cap_lanes.specs.Ends.{Flags}
+use Rattle.cap_lanes.proofs.Prelude.{◌≡◌, ℕ, zero, suc, ◌+◌, ◌<◌, ◌≤◌, ◌==◌, nat_lt, Bool, true, false, List, [], ◌∷◌, ◌++◌, length, refl, ap, sym, ◌∙◌, arith, length-append, if◌then◌else◌, nat_tests, append-nil, NodeProposal, Item, Lane, messages_of, proposals, is_over, puts_in, tagged, View, view_of, AllFit, times, WorkersBelow, Tally, puts_by, WorkerSide, Alike, put_by, ends_of, AllOver, Flags}
 use Rattle.cap_lanes.proofs.Lists.{one, same_of, proposals-append, puts_in-append, tagged-append, tagged_puts}
 
 -- a sum over the eight

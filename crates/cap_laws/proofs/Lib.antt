@@ -1,3 +1,4 @@
+mod Prelude
 pub mod bounds
 pub mod calls
 pub mod choice

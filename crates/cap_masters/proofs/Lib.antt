@@ -1,3 +1,4 @@
+mod Prelude
 pub mod Processing
 pub mod TooLarge
 pub mod Refused

@@ -1,32 +1,8 @@
 -- An allocate that is processed, and its answer.
-use Rattle.std.proofs.Common.{◌≡◌, ℕ, ◌+◌, ◌-◌, ◌<◌, ◌≤◌, Bool, true, false, List, [], ◌∷◌, ◌++◌, get_or, length, take, refl, sym, ◌∙◌, ap, subst, inl, arith, inr}
-use Rattle.std.specs.Prelude.{Option, Some, None, IsSome, IfSome, not, ◌==◌, ◌&&◌, is_none, filter, option_map, option_and_then, if◌then◌else◌}
-use Rattle.std.specs.List.{fold, list_any}
-use Rattle.std.proofs.lemmas.List.{take_more}
-use Rattle.std.proofs.lemmas.List.Sums.{fold-append}
-use Rattle.std.proofs.lemmas.Bool.Decides.{nat_tests}
-use Rattle.cap_model.specs.Asks.{Ask}
-use Rattle.cap_model.specs.declared.news.Cause.{Cause}
-use Rattle.cap_model.specs.declared.request.Request.{Request}
+use Rattle.cap_masters.proofs.Prelude.{◌≡◌, ℕ, ◌+◌, ◌-◌, ◌<◌, ◌≤◌, Bool, true, false, List, [], ◌∷◌, ◌++◌, get_or, length, take, refl, sym, ◌∙◌, ap, subst, inl, arith, inr, Option, Some, None, IsSome, IfSome, not, ◌==◌, ◌&&◌, is_none, filter, option_map, option_and_then, if◌then◌else◌, fold, list_any, take_more, fold-append, nat_tests, Ask, Cause, Request, Reply, Refusal, earliest, holds_of, Flat, App, Container, app_at, with_app, is_current, is_repeated, is_bad_id, after_asks, after_ask, rounded_ask, put_ask, after_ends, with_ends, named_among, allocate_refusal, is_repeated_allocate, is_too_large, has_too_many_keys, released_by, after_wishes, after_telling, after_allocate, kept_reply, after_processed_allocate, refused_or, find_changed, asks_keep, first_holds, kept_if, Reported, repeated_numbers, reported_of, HasResponse}
 use Rattle.cap_model.specs.declared.reply.ReplyWith.TheVariants as Reply
-use Rattle.cap_model.specs.News.{Reply}
-use Rattle.cap_model.specs.declared.refusal.Refusal.{Refusal}
-use Rattle.cap_base.specs.Cascade.{earliest, holds_of}
-use Rattle.cap_model.specs.Flat.{Flat, App, Container, app_at, with_app}
-use Rattle.cap_model.specs.ResponseIds.{is_current, is_repeated, is_bad_id}
-use Rattle.cap_model.specs.Asking.{after_asks, after_ask, rounded_ask, put_ask}
-use Rattle.cap_model.specs.Ending.{after_ends, with_ends, named_among}
-use Rattle.cap_model.specs.Allocate.{allocate_refusal, is_repeated_allocate, is_too_large, has_too_many_keys, released_by, after_wishes, after_telling, after_allocate, kept_reply, after_processed_allocate}
-use Rattle.cap_model.specs.Replies.{refused_or}
 use Rattle.cap_model.specs.Replies as flat_replies
-use Rattle.cap_model.proofs.lists.Numbered.{find_changed}
-use Rattle.cap_laws.proofs.numbers.ContainerNumbers.{asks_keep}
-use Rattle.cap_base.proofs.lists.Tests.{first_holds, kept_if}
-use Rattle.cap_model.specs.declared.replies.Reported.{Reported}
-use Rattle.cap_asks.specs.Accounts.{repeated_numbers}
-use Rattle.cap_model.specs.Reporting.{reported_of}
 use Rattle.cap_masters.proofs.Refused.{repeats_it, repeats_none}
-use Rattle.cap_masters.specs.Processed.{HasResponse}
 
 kept_by : (f : App → App) → ((a : App) → (f a).response ≡ a.response) → (o : Option App) → option_map (λ (a : App). a.response) (option_map f o) ≡ option_map (λ a. a.response) o
 kept_by f r None = refl

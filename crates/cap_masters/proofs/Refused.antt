@@ -1,21 +1,5 @@
 -- What is known where no refusal holds, and how amounts are compared.
-use Rattle.std.proofs.Common.{◌≡◌, ℕ, Bool, true, false, List, [], ◌∷◌, refl, sym, ◌∙◌, ap}
-use Rattle.std.specs.Prelude.{Option, Some, None, IsSome, IsTrue, ◌↔◌, is_none, option_map, if◌then◌else◌, not, find, ◌==◌, ◌&&◌}
-use Rattle.std.specs.List.{list_any}
-use Rattle.cap_vector.specs.Vector.{Fits}
-use Rattle.cap_base.specs.Amounts.{fits}
-use Rattle.cap_base.specs.Cascade.{earliest, holds_of}
-use Rattle.cap_model.specs.declared.refusal.Refusal.{Refusal}
-use Rattle.cap_model.specs.Asks.{Ask}
-use Rattle.cap_model.specs.Flat.{Flat, App, AppTable, app_at}
-use Rattle.cap_model.specs.ResponseIds.{is_bad_id, is_repeated}
-use Rattle.cap_model.specs.Allocate.{allocate_refusal, has_too_many_keys, is_too_large}
-use Rattle.cap_model.specs.FinishMaster.{finish_master_refusal}
-use Rattle.cap_base.proofs.Amounts.{fits_amounts, amounts_fit}
-use Rattle.cap_model.specs.News.{AllocateReply}
-use Rattle.cap_model.specs.declared.replies.Reported.{Reported}
-use Rattle.cap_asks.specs.Accounts.{repeated_numbers}
-use Rattle.cap_model.specs.Reporting.{reported_of}
+use Rattle.cap_masters.proofs.Prelude.{◌≡◌, ℕ, Bool, true, false, List, [], ◌∷◌, refl, sym, ◌∙◌, ap, Option, Some, None, IsSome, IsTrue, ◌↔◌, is_none, option_map, if◌then◌else◌, not, find, ◌==◌, ◌&&◌, list_any, Fits, fits, earliest, holds_of, Refusal, Ask, Flat, App, AppTable, app_at, is_bad_id, is_repeated, allocate_refusal, has_too_many_keys, is_too_large, finish_master_refusal, fits_amounts, amounts_fit, AllocateReply, Reported, repeated_numbers, reported_of}
 
 -- the first test says that there is one
 pub is_there : {A B : Type 0} (o : Option A) (x : B) (rest : List (Bool × B)) → earliest ((is_none o, x) ∷ rest) ≡ None → IsSome o

@@ -1,19 +1,6 @@
 -- Where an application may enter: what the tree shows is what the flat cluster has.
-use Rattle.std.proofs.Common.{◌≡◌, ℕ, ◌≤◌, ◌<◌, Bool, true, false, List, [], ◌∷◌, ◌++◌, length, Option, Some, None, refl, sym, ◌∙◌, ap, arith}
-use Rattle.std.specs.Prelude.{bytes_eq, is_none, is_some, nat_eq, nat_le, not, filter, find}
-use Rattle.std.specs.List.{list_all, list_any, starts_with}
-use Rattle.std.proofs.lemmas.Bool.Decides.{nat_tests}
-use Rattle.cap_model.specs.declared.refusal.Refusal.{Refusal}
-use Rattle.cap_base.specs.Cascade.{earliest}
-use Rattle.cap_base.specs.Limits.{number_end}
-use Rattle.cap_base.specs.Settings.{QueueRow}
-use Rattle.cap_model.specs.Flat.{Flat, queue_at}
-use Rattle.cap_base.specs.Paths.{is_under}
-use Rattle.cap_model.specs.Submit.{submit_refusal, has_children, is_running}
-use Rattle.cap_tree.specs.Rows.{Row, IsAt, queues_of}
+use Rattle.cap_masters.proofs.Prelude.{◌≡◌, ℕ, ◌≤◌, ◌<◌, Bool, true, false, List, [], ◌∷◌, ◌++◌, length, Option, Some, None, refl, sym, ◌∙◌, ap, arith, bytes_eq, is_none, is_some, nat_eq, nat_le, not, filter, find, list_all, list_any, starts_with, nat_tests, Refusal, earliest, number_end, QueueRow, Flat, queue_at, is_under, submit_refusal, has_children, is_running, Row, IsAt, queues_of, path_at, is_found}
 use Rattle.cap_tree.specs.Rows as rows_of
-use Rattle.cap_tree.specs.Spot.{path_at}
-use Rattle.cap_commit.proofs.RowsAt.{is_found}
 
 some_not_none : {A : Type 0} (o : Option A) → is_some o ≡ true → is_none o ≡ false
 some_not_none (Some x) e = refl

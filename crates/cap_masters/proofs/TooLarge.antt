@@ -1,14 +1,5 @@
 -- Looking for an ask that is too large.
-use Rattle.std.proofs.Common.{◌≡◌, ℕ, zero, suc, ◌+◌, ◌<◌, ◌≤◌, Bool, true, false, List, [], ◌∷◌, length, get_or, drop, sym, ◌∙◌, ap, arith}
-use Rattle.std.specs.Prelude.{IsTrue, ◌↔◌, not, ◌&&◌, ◌||◌, nat_le}
-use Rattle.std.specs.List.{list_any}
-use Rattle.std.proofs.lemmas.Bool.Decides.{nat_tests}
-use Rattle.cap_vector.specs.Vector.{Fits}
-use Rattle.cap_base.specs.Amounts.{fits}
-use Rattle.cap_model.specs.Asks.{Ask}
-use Rattle.cap_model.specs.Flat.{Flat}
-use Rattle.cap_model.specs.Allocate.{is_too_large}
-use Rattle.cap_base.proofs.lists.Tests.{and_false}
+use Rattle.cap_masters.proofs.Prelude.{◌≡◌, ℕ, zero, suc, ◌+◌, ◌<◌, ◌≤◌, Bool, true, false, List, [], ◌∷◌, length, get_or, drop, sym, ◌∙◌, ap, arith, IsTrue, ◌↔◌, not, ◌&&◌, ◌||◌, nat_le, list_any, nat_tests, Fits, fits, Ask, Flat, is_too_large, and_false}
 use Rattle.cap_masters.proofs.Refused.{fits_is}
 
 step : {A : Type 0} (test : A → Bool) (xs : List A) (i : ℕ) (x : A) → i < length xs → x ≡ get_or xs i x → list_any test (drop i xs) ≡ (test x || list_any test (drop (i + 1) xs))

@@ -1,3 +1,4 @@
+mod Prelude
 pub mod SameReplies
 pub mod calls
 pub mod choice

@@ -1,20 +1,5 @@
 -- Asks, without the last resource.
-use Rattle.std.proofs.Common.{◌≡◌, ℕ, suc, ◌-◌, List, [], ◌∷◌, refl, ◌∙◌, ap}
-use Rattle.std.specs.Prelude.{Bool, true, false, Option, Some, None, not, ◌==◌, ◌||◌, map, filter, option_map, bytes_eq, if◌then◌else◌}
-use Rattle.std.specs.List.{fold}
-use Rattle.std.specs.Option.{option_map_or}
-use Rattle.std.specs.Ordering.{is_lt}
-use Rattle.std.proofs.lemmas.List.Elements.{All-cons, All-head, All-tail, All-filter}
-use Rattle.cap_base.specs.Cascade.{holds_of}
-use Rattle.cap_base.proofs.lists.Members.{each_of, found}
-use Rattle.cap_base.proofs.lists.Filters.{find_mapped_at, filter_mapped}
-use Rattle.cap_model.specs.Asks.{Ask, same_key, ask_key_cmp}
-use Rattle.cap_model.specs.declared.ask.Key.{Key}
-use Rattle.cap_model.specs.Flat.{Flat, App, Reservation, is_for, ask_at, app_at}
-use Rattle.cap_model.specs.Asking.{without_key, with_ask, put_ask, keep_first, is_changed, reservations_left, rounded_ask, after_ask, after_asks}
-use Rattle.cap_model.specs.Events.{take_one}
-use Rattle.cap_narrow.specs.Narrowing.{EndsInNone}
-use Rattle.cap_narrow.specs.Clusters.{narrow, narrow_ask, narrow_app, narrow_reservation, WantNone, HasNone}
+use Rattle.cap_narrow.proofs.Prelude.{◌≡◌, ℕ, suc, ◌-◌, List, [], ◌∷◌, refl, ◌∙◌, ap, Bool, true, false, Option, Some, None, not, ◌==◌, ◌||◌, map, filter, option_map, bytes_eq, if◌then◌else◌, fold, option_map_or, is_lt, All-cons, All-head, All-tail, All-filter, holds_of, each_of, found, find_mapped_at, filter_mapped, Ask, same_key, ask_key_cmp, Key, Flat, App, Reservation, is_for, ask_at, app_at, without_key, with_ask, put_ask, keep_first, is_changed, reservations_left, rounded_ask, after_ask, after_asks, take_one, EndsInNone, narrow, narrow_ask, narrow_app, narrow_reservation, WantNone, HasNone}
 use Rattle.cap_narrow.proofs.Lists.{holds_mapped, holds_same, change_meets, keep_mapped, all_changed_if, all_kept}
 use Rattle.cap_narrow.proofs.Vectors.{rounding_narrow, rounding_ends, same_narrow}
 use Rattle.cap_narrow.proofs.Sights.{app_narrow}

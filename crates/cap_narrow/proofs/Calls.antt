@@ -1,34 +1,6 @@
 -- What calls reply and leave, without the last resource.
-use Rattle.std.proofs.Common.{◌≡◌, ℕ, suc, ◌+◌, ◌-◌, Bool, true, false, List, [], ◌∷◌, length, take, refl, sym, ◌∙◌, ap, arith}
-use Rattle.std.specs.Prelude.{Option, Some, None, not, ◌==◌, map, filter, cond, option_map, option_and_then, unwrap_or, bytes_eq, if◌then◌else◌}
-use Rattle.std.proofs.lemmas.List.Elements.{All-nil, All-push, All-filter}
-use Rattle.std.proofs.lemmas.List.{map-append, length-map, take-map, drop-map, take-replicate}
-use Rattle.cap_vector.specs.Vector.{zeros}
-use Rattle.cap_base.specs.Settings.{QueueRow}
-use Rattle.cap_base.specs.Limits.{news_max}
-use Rattle.cap_model.specs.Asks.{Ask}
-use Rattle.cap_model.specs.declared.news.Cause.{Cause}
-use Rattle.cap_model.specs.declared.request.Request.{Request}
+use Rattle.cap_narrow.proofs.Prelude.{◌≡◌, ℕ, suc, ◌+◌, ◌-◌, Bool, true, false, List, [], ◌∷◌, length, take, refl, sym, ◌∙◌, ap, arith, Option, Some, None, not, ◌==◌, map, filter, cond, option_map, option_and_then, unwrap_or, bytes_eq, if◌then◌else◌, All-nil, All-push, All-filter, map-append, length-map, take-map, drop-map, take-replicate, zeros, QueueRow, news_max, Ask, Cause, Request, AllocateReply, is_under, root_path, first_of_queue, Flat, App, ClusterNode, Container, Reservation, app_at, node_at, queue_at, containers_of, containers_on, with_app, with_node, is_among, named_among, after_ends, after_asks, new_app, is_repeated_allocate, released_by, after_processed_allocate, after_allocate, after_telling, news_report, kept_reply, nothing_told, after_finish_master, new_node, is_repeated_heartbeat, ended_by, beat_of, after_processed_heartbeat, after_heartbeat, no_beat, without_node, queue_report, cluster_report, granted_reply, granted_cluster, filter_mapped, sum_by_map, EndsInNone, narrow, narrow_ask, narrow_app, narrow_grant, narrow_allocate_reply, narrow_node, narrow_container, narrow_reservation, WantNone, HasNone, narrow_request, narrow_reply, narrow_queue_report, narrow_cluster_report, AsksNone}
 use Rattle.cap_model.specs.declared.reply.ReplyWith.TheVariants as Reply
-use Rattle.cap_model.specs.News.{AllocateReply}
-use Rattle.cap_base.specs.Paths.{is_under, root_path}
-use Rattle.cap_model.specs.Refresh.{first_of_queue}
-use Rattle.cap_model.specs.Flat.{Flat, App, ClusterNode, Container, Reservation, app_at, node_at, queue_at, containers_of, containers_on, with_app, with_node}
-use Rattle.cap_model.specs.Ending.{is_among, named_among, after_ends}
-use Rattle.cap_model.specs.Asking.{after_asks}
-use Rattle.cap_model.specs.Submit.{new_app}
-use Rattle.cap_model.specs.Allocate.{is_repeated_allocate, released_by, after_processed_allocate, after_allocate, after_telling, news_report, kept_reply, nothing_told}
-use Rattle.cap_model.specs.FinishMaster.{after_finish_master}
-use Rattle.cap_model.specs.RegisterNode.{new_node}
-use Rattle.cap_model.specs.Heartbeat.{is_repeated_heartbeat, ended_by, beat_of, after_processed_heartbeat, after_heartbeat, no_beat}
-use Rattle.cap_model.specs.NodeGone.{without_node}
-use Rattle.cap_model.specs.QueueCalls.{queue_report, cluster_report}
-use Rattle.cap_model.specs.Replies.{granted_reply, granted_cluster}
-use Rattle.cap_base.proofs.lists.Filters.{filter_mapped}
-use Rattle.cap_base.proofs.lists.Sums.{sum_by_map}
-use Rattle.cap_narrow.specs.Narrowing.{EndsInNone}
-use Rattle.cap_narrow.specs.Clusters.{narrow, narrow_ask, narrow_app, narrow_grant, narrow_allocate_reply, narrow_node, narrow_container, narrow_reservation, WantNone, HasNone}
-use Rattle.cap_narrow.specs.Steps.{narrow_request, narrow_reply, narrow_queue_report, narrow_cluster_report, AsksNone}
 use Rattle.cap_narrow.proofs.Lists.{change_meets, all_changed_if}
 use Rattle.cap_narrow.proofs.Sights.{app_narrow, queue_use_narrow}
 use Rattle.cap_narrow.proofs.Changes.{named_narrow, live_narrow, after_ends_narrow, with_app_narrow, with_node_narrow, none_with_app, none_with_node, none_after_ends}

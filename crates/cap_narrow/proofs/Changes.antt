@@ -1,14 +1,5 @@
 -- Changes of one application, of one node, and ends of containers, without the last resource.
-use Rattle.std.proofs.Common.{◌≡◌, ℕ, suc, List, [], ◌∷◌, ◌++◌, refl, ◌∙◌, ap}
-use Rattle.std.specs.Prelude.{Option, Some, None, not, ◌==◌, map, filter, find, option_map}
-use Rattle.std.specs.List.{cons_option}
-use Rattle.std.proofs.lemmas.List.Elements.{All-map, All-filter}
-use Rattle.cap_base.proofs.lists.Filters.{find_mapped_at, map_twice, filter_mapped}
-use Rattle.cap_model.specs.declared.news.Cause.{Cause}
-use Rattle.cap_model.specs.Flat.{Flat, App, ClusterNode, Container, with_app, with_node}
-use Rattle.cap_model.specs.Ending.{is_among, named_among, with_ends, after_ends}
-use Rattle.cap_narrow.specs.Narrowing.{EndsInNone}
-use Rattle.cap_narrow.specs.Clusters.{narrow, narrow_app, narrow_node, narrow_container, WantNone, HasNone}
+use Rattle.cap_narrow.proofs.Prelude.{◌≡◌, ℕ, suc, List, [], ◌∷◌, ◌++◌, refl, ◌∙◌, ap, Option, Some, None, not, ◌==◌, map, filter, find, option_map, cons_option, All-map, All-filter, find_mapped_at, map_twice, filter_mapped, Cause, Flat, App, ClusterNode, Container, with_app, with_node, is_among, named_among, with_ends, after_ends, EndsInNone, narrow, narrow_app, narrow_node, narrow_container, WantNone, HasNone}
 use Rattle.cap_narrow.proofs.Lists.{any_same, maps_meet, change_meets, all_changed_if}
 
 -- ---- ends

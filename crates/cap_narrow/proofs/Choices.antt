@@ -1,24 +1,5 @@
 -- What is chosen, without the last resource.
-use Rattle.std.proofs.Common.{◌≡◌, ℕ, suc, Bool, true, false, List, [], ◌∷◌, ◌++◌, length, take, drop, refl, sym, ◌∙◌, ap, subst, inl, inr}
-use Rattle.std.specs.Prelude.{Option, Some, None, is_none, ◌%◌, map, filter, flat_map, option_map, if◌then◌else◌}
-use Rattle.std.specs.List.{All}
-use Rattle.std.specs.Option.{option_or}
-use Rattle.std.specs.Ordering.{ordering_then, is_gt, nat_cmp}
-use Rattle.std.specs.Cmp.Lexicographic.{slice_cmp}
-use Rattle.std.proofs.lemmas.List.{map-append, length-map, take-map, drop-map}
-use Rattle.cap_model.specs.Asks.{Ask, ask_key_cmp}
-use Rattle.cap_base.specs.Paths.{is_under, name_of}
-use Rattle.cap_model.specs.Sight.{Sight, QueueSight, AppSight, NodeSight, queues_to}
-use Rattle.cap_model.specs.Admission.{NodeProposal, leaf_path, reason_of}
-use Rattle.cap_base.specs.Levels.{level_cmp}
-use Rattle.cap_model.specs.Choice.{level_of, ring_from, is_after}
-use Rattle.cap_model.specs.Candidates.{proposals_of, admissible_on, sooner, first_served, choice_on, first_choice, choice_from}
-use Rattle.cap_base.specs.Members.{IsIn}
-use Rattle.cap_base.proofs.lists.Members.{each_of, of_filter, in_either}
-use Rattle.cap_base.proofs.lists.Filters.{filter_same, filter_mapped}
-use Rattle.cap_narrow.specs.Narrowing.{EndsInNone}
-use Rattle.cap_narrow.specs.Clusters.{narrow_ask, narrow_sight, narrow_queue_sight, narrow_app_sight, narrow_node_sight, narrow_proposal, ShowsNone}
-use Rattle.cap_narrow.specs.ClusterLaws.{ChoicesNarrow}
+use Rattle.cap_narrow.proofs.Prelude.{◌≡◌, ℕ, suc, Bool, true, false, List, [], ◌∷◌, ◌++◌, length, take, drop, refl, sym, ◌∙◌, ap, subst, inl, inr, Option, Some, None, is_none, ◌%◌, map, filter, flat_map, option_map, if◌then◌else◌, All, option_or, ordering_then, is_gt, nat_cmp, slice_cmp, map-append, length-map, take-map, drop-map, Ask, ask_key_cmp, is_under, name_of, Sight, QueueSight, AppSight, NodeSight, queues_to, NodeProposal, leaf_path, reason_of, level_cmp, level_of, ring_from, is_after, proposals_of, admissible_on, sooner, first_served, choice_on, first_choice, choice_from, IsIn, each_of, of_filter, in_either, filter_same, filter_mapped, EndsInNone, narrow_ask, narrow_sight, narrow_queue_sight, narrow_app_sight, narrow_node_sight, narrow_proposal, ShowsNone, ChoicesNarrow}
 use Rattle.cap_narrow.proofs.Lists.{in_drop}
 use Rattle.cap_narrow.proofs.Vectors.{fullness_narrow}
 use Rattle.cap_narrow.proofs.Reasons.{way_seen, leaf_seen, reason_narrow}

@@ -1,16 +1,5 @@
 -- The clusters of the worked examples, written out, and lines that guarantee GPUs.
-use Rattle.std.proofs.Common.{◌≡◌, ℕ, List, [], ◌∷◌, true, refl, sym, ◌∙◌, ap}
-use Rattle.std.specs.Prelude.{Some, None, codes}
-use Rattle.cap_vector.specs.Vector.{plus, less}
-use Rattle.cap_base.specs.Settings.{Settings}
-use Rattle.cap_model.specs.Flat.{Flat}
-use Rattle.cap_model.specs.Sight.{sight_of}
-use Rattle.cap_model.specs.Candidates.{choice_from}
-use Rattle.cap_model.specs.Events.{after_grant}
-use Rattle.cap_examples.specs.ExampleClusters.{mb_and_vcores, key, ask_anywhere, two_queues, container, after_grants}
-use Rattle.cap_examples.specs.ExampleProposals.{one_asked}
-use Rattle.cap_narrow.specs.Clusters.{narrow}
-use Rattle.cap_narrow.specs.Example.{mb_vcores_and_gpus, queues_with_gpus, asked_without_gpus, OneGrantWithoutGpus, lines_with_gpus, GuaranteesRaiseNone}
+use Rattle.cap_narrow.proofs.Prelude.{◌≡◌, ℕ, List, [], ◌∷◌, true, refl, sym, ◌∙◌, ap, Some, None, codes, plus, less, Settings, Flat, sight_of, choice_from, after_grant, mb_and_vcores, key, ask_anywhere, two_queues, container, after_grants, one_asked, narrow, mb_vcores_and_gpus, queues_with_gpus, asked_without_gpus, OneGrantWithoutGpus, lines_with_gpus, GuaranteesRaiseNone}
 use Rattle.cap_narrow.proofs.Gpus.{texts_without_least_gpus}
 
 -- one node, and two applications, of which the first asks

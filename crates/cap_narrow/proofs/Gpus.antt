@@ -1,36 +1,7 @@
 -- Property lines that do not name the third resource.
-use Rattle.std.proofs.Common.{◌≡◌, ℕ, ◌+◌, Bool, true, false, List, [], ◌∷◌, ◌++◌, length, take, drop, cond, refl, sym, ◌∙◌, ap, subst, inl, inr}
-use Rattle.std.specs.Prelude.{Option, Some, None, Result, Ok, Err, ◌==◌, bytes_eq, nat_eq, codes}
-use Rattle.std.specs.List.{All, list_all, position, starts_with}
-use Rattle.std.specs.Str.Lines.{lines}
-use Rattle.std.proofs.lemmas.Option.{same_Some}
-use Rattle.std.proofs.lemmas.List.Elements.{All-push, All-nil}
-use Rattle.std.proofs.lemmas.Slice.Eq.{bytes_eq-Decides}
-use Rattle.cap_vector.specs.Vector.{amount}
-use Rattle.cap_text.specs.Pieces.{trimmed_bytes}
-use Rattle.cap_base.specs.Members.{IsIn}
-use Rattle.cap_base.specs.Limits.{resources}
-use Rattle.cap_base.specs.Settings.{QueueRow, Settings}
-use Rattle.cap_base.specs.declared.properties.entry.Entry.{Entry}
+use Rattle.cap_narrow.proofs.Prelude.{◌≡◌, ℕ, ◌+◌, Bool, true, false, List, [], ◌∷◌, ◌++◌, length, take, drop, cond, refl, sym, ◌∙◌, ap, subst, inl, inr, Option, Some, None, Result, Ok, Err, ◌==◌, bytes_eq, nat_eq, codes, All, list_all, starts_with, lines, same_Some, All-push, All-nil, bytes_eq-Decides, amount, trimmed_bytes, IsIn, resources, QueueRow, Settings, Entry, Value, Setting, Queues, Capacity, MaximumCapacity, UserLimitFactor, State, MaximumApplications, MinimumMemory, MinimumVcores, MinimumGpu, MaximumMemory, MaximumVcores, MaximumGpu, ConfigFault, spelling, cluster_settings, queue_settings, setting_named, prefix, takes, path_of, last_dot, parts_round, parts_at_last_dot, key_on, key_at, key_of_parts, queue_key, key_or, key_of, contains_bytes, value_of, is_passed_over, is_printable, both_trimmed, line_parts, key_text, with_value, with_key, with_parts, entry_of, and_then, read_after, read_lines, same_setting, cluster_entry, number_or, settings_of, settings_in, found, each_of, of_each, QueueHasAmounts, made_of, settings_have, SetsNone, stands_in, RaisesToNoGpu, TextsWithoutLeastGpus, TextsWithoutGpus, RefreshesAskNone, OpeningsHaveNone}
+use Rattle.std.specs.List.{position}
 use Rattle.cap_base.specs.declared.properties.key.Key.{Key}
-use Rattle.cap_base.specs.declared.properties.value.Value.{Value}
-use Rattle.cap_base.specs.declared.properties.setting.Setting.{Setting}
-use Rattle.cap_base.specs.declared.properties.setting.Setting.TheVariants.{Queues, Capacity, MaximumCapacity, UserLimitFactor, State, MaximumApplications, MinimumMemory, MinimumVcores, MinimumGpu, MaximumMemory, MaximumVcores, MaximumGpu}
-use Rattle.cap_base.specs.declared.properties.fault.ConfigFault.{ConfigFault}
-use Rattle.cap_base.specs.properties.Keys.{spelling, cluster_settings, queue_settings, setting_named, prefix, takes, path_of, last_dot, parts_round, parts_at_last_dot, key_on, key_at, key_of_parts, queue_key, key_or, key_of}
-use Rattle.cap_base.specs.properties.Seen.{contains_bytes}
-use Rattle.cap_base.specs.properties.Values.{value_of}
-use Rattle.cap_base.specs.properties.Entries.{is_passed_over, is_printable, both_trimmed, line_parts, key_text, with_value, with_key, with_parts, entry_of, and_then, read_after, read_lines}
-use Rattle.cap_base.specs.properties.Queues.{same_setting}
-use Rattle.cap_base.specs.properties.Tests.{cluster_entry, number_or}
-use Rattle.cap_base.specs.properties.Rows.{settings_of}
-use Rattle.cap_base.specs.properties.First.{settings_in}
-use Rattle.cap_base.proofs.lists.Members.{found, each_of, of_each}
-use Rattle.cap_config.specs.Laws.{QueueHasAmounts}
-use Rattle.cap_config.proofs.RowTrees.{made_of}
-use Rattle.cap_config.proofs.RowAmounts.{settings_have}
-use Rattle.cap_narrow.specs.Clusters.{SetsNone}
-use Rattle.cap_narrow.specs.Gpus.{stands_in, RaisesToNoGpu, TextsWithoutLeastGpus, TextsWithoutGpus, RefreshesAskNone, OpeningsHaveNone}
 use Rattle.cap_narrow.proofs.Refreshing.{firsts_set_none}
 use Rattle.cap_narrow.proofs.Words.{IsPartOf, part_itself, part_of_part, part_taken, part_dropped, part_trimmed, line_of_text, part_stands}
 

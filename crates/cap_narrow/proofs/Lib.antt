@@ -1,4 +1,5 @@
 pub mod Lists
+mod Prelude
 pub mod Vectors
 pub mod Sights
 pub mod Reasons

@@ -1,12 +1,5 @@
 -- What is so of mapped lists and options: tests, changes, and what all of a list have.
-use Rattle.std.proofs.Common.{◌≡◌, ℕ, zero, suc, ◌+◌, ◌-◌, Bool, true, false, List, [], ◌∷◌, drop, refl, ◌∙◌, ap, inl, inr}
-use Rattle.std.specs.Prelude.{Option, Some, None, is_none, is_some, not, ◌==◌, ◌&&◌, ◌||◌, nat_lt, map, cond, position, option_map, if◌then◌else◌}
-use Rattle.std.specs.List.{All, list_any, list_all, prefix_len}
-use Rattle.std.proofs.lemmas.List.{length-map}
-use Rattle.std.proofs.lemmas.List.Elements.{All-cons, All-head, All-tail, All-map, All-weaker}
-use Rattle.cap_base.specs.Cascade.{holds_of}
-use Rattle.cap_base.specs.Members.{IsIn}
-use Rattle.cap_model.specs.Asking.{keep_first}
+use Rattle.cap_narrow.proofs.Prelude.{◌≡◌, ℕ, zero, suc, ◌+◌, ◌-◌, Bool, true, false, List, [], ◌∷◌, drop, refl, ◌∙◌, ap, inl, inr, Option, Some, None, is_none, is_some, not, ◌==◌, ◌&&◌, ◌||◌, nat_lt, map, cond, position, option_map, if◌then◌else◌, All, list_any, list_all, prefix_len, length-map, All-cons, All-head, All-tail, All-map, All-weaker, holds_of, IsIn, keep_first}
 
 -- ---- options
 pub holds_mapped : {A B : Type 0} (f : A → B) (t : B → Bool) (o : Option A) → holds_of t (option_map f o) ≡ holds_of (λ x. t (f x)) o

@@ -1,28 +1,5 @@
 -- Why a proposal is rejected, without the last resource.
-use Rattle.std.proofs.Common.{◌≡◌, ℕ, suc, ◌-◌, Bool, true, false, List, [], ◌∷◌, take, refl, sym, ◌∙◌, ap, subst, arith}
-use Rattle.std.specs.Prelude.{Option, Some, None, is_none, is_some, not, ◌==◌, ◌&&◌, ◌||◌, nat_le, map, cond, count_by, position, option_map, option_and_then, unwrap_or, bytes_eq, if◌then◌else◌}
-use Rattle.std.specs.List.{All, list_all}
-use Rattle.std.proofs.lemmas.Slice.Eq.{bytes_eq-Decides}
-use Rattle.cap_vector.specs.Vector.{less, amounts_exchanged}
-use Rattle.cap_vector.specs.AmountLaws.{amount-exchanged}
-use Rattle.cap_vector.proofs.AmountLemmas.{length-plus, length-less}
-use Rattle.cap_base.specs.Limits.{number_end, live_max}
-use Rattle.cap_base.specs.Cascade.{holds_of, earliest}
-use Rattle.cap_base.specs.Amounts.{fits}
-use Rattle.cap_model.specs.Asks.{Ask, same_key}
-use Rattle.cap_model.specs.declared.proposal.Reason.TheVariants.{NoApp, NoAsk, OtherAsk, NoNode, WrongPlace, ReservedByOther, NoRoom, OverMaximum, OverUser, TooManyLive, FitsNow, NeverFits, NumbersSpent}
-use Rattle.cap_base.specs.Paths.{is_under}
-use Rattle.cap_model.specs.Flat.{Reservation, is_for, ask_at}
-use Rattle.cap_model.specs.Sight.{Sight, QueueSight, AppSight, NodeSight, seen_app, seen_node, seen_queue, queues_to, still_wanted}
-use Rattle.cap_base.specs.LimitTests.{fits_maximum, fits_user_limit}
-use Rattle.cap_model.specs.Admission.{NodeProposal, is_grant, takes_place, proposed_ask, node_reservation, is_reserved_for, is_wanted, asks_resource, suits_place, fits_free, fits_total, room_replaced, use_after, leaf_path, user_name, stays_in_maximum, stays_in_maxima, broken_level, stays_in_user_limit, reason_of}
-use Rattle.cap_base.specs.Members.{IsIn}
-use Rattle.cap_base.proofs.lists.Members.{each_of, of_filter, found}
-use Rattle.cap_base.proofs.lists.Filters.{find_mapped_at, filter_mapped}
-use Rattle.cap_base.proofs.lists.Sums.{sum_by_map}
-use Rattle.cap_narrow.specs.Narrowing.{EndsInNone}
-use Rattle.cap_narrow.specs.Clusters.{narrow_ask, narrow_reservation, narrow_sight, narrow_queue_sight, narrow_app_sight, narrow_node_sight, narrow_proposal, ShowsNone}
-use Rattle.cap_narrow.specs.ClusterLaws.{ReasonsNarrow}
+use Rattle.cap_narrow.proofs.Prelude.{◌≡◌, ℕ, suc, ◌-◌, Bool, true, false, List, [], ◌∷◌, take, refl, sym, ◌∙◌, ap, subst, arith, Option, Some, None, is_none, is_some, not, ◌==◌, ◌&&◌, ◌||◌, nat_le, map, cond, count_by, position, option_map, option_and_then, unwrap_or, bytes_eq, if◌then◌else◌, All, list_all, bytes_eq-Decides, less, amounts_exchanged, amount-exchanged, length-plus, length-less, number_end, live_max, holds_of, earliest, fits, Ask, same_key, NoApp, NoAsk, OtherAsk, NoNode, WrongPlace, ReservedByOther, NoRoom, OverMaximum, OverUser, TooManyLive, FitsNow, NeverFits, NumbersSpent, is_under, Reservation, is_for, ask_at, Sight, QueueSight, AppSight, NodeSight, seen_app, seen_node, seen_queue, queues_to, still_wanted, fits_maximum, fits_user_limit, NodeProposal, is_grant, takes_place, proposed_ask, node_reservation, is_reserved_for, is_wanted, asks_resource, suits_place, fits_free, fits_total, room_replaced, use_after, leaf_path, user_name, stays_in_maximum, stays_in_maxima, broken_level, stays_in_user_limit, reason_of, IsIn, each_of, of_filter, found, find_mapped_at, filter_mapped, sum_by_map, EndsInNone, narrow_ask, narrow_reservation, narrow_sight, narrow_queue_sight, narrow_app_sight, narrow_node_sight, narrow_proposal, ShowsNone, ReasonsNarrow}
 use Rattle.cap_narrow.proofs.Lists.{holds_mapped, holds_same, some_mapped, none_mapped, all_same, position_same}
 use Rattle.cap_narrow.proofs.Vectors.{take_nothing, fits_narrow, maximum_narrow, exchanged_narrow, user_limit_narrow, same_narrow}
 

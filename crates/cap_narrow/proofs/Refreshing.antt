@@ -1,18 +1,5 @@
 -- A Refresh, without the last resource.
-use Rattle.std.proofs.Common.{◌≡◌, ℕ, suc, true, List, [], ◌∷◌, take, length, refl, sym, ◌∙◌, ap, subst, arith}
-use Rattle.std.specs.Prelude.{Option, Some, None, ◌&&◌, map, find, option_map, is_some, bytes_eq}
-use Rattle.std.specs.List.{All, list_all}
-use Rattle.std.specs.Option.{option_map_or}
-use Rattle.std.proofs.lemmas.List.{take-take, take_all}
-use Rattle.cap_base.specs.Settings.{QueueRow, Settings}
-use Rattle.cap_base.specs.Trees.{has_path, has_same_paths}
-use Rattle.cap_base.specs.properties.First.{first_fault, settings_in}
-use Rattle.cap_base.proofs.lists.Members.{each_of, of_each, of_map, found}
-use Rattle.cap_base.proofs.lists.Filters.{find_mapped_at}
-use Rattle.cap_model.specs.Flat.{Flat}
-use Rattle.cap_model.specs.Refresh.{first_of_queue, first_of_settings, refreshed_queue, refreshed_settings, lines_refusal, has_its_queues, refresh_refusal, after_refresh}
-use Rattle.cap_narrow.specs.Narrowing.{EndsInNone}
-use Rattle.cap_narrow.specs.Clusters.{narrow, SetsNone, HasNone}
+use Rattle.cap_narrow.proofs.Prelude.{◌≡◌, ℕ, suc, true, List, [], ◌∷◌, take, length, refl, sym, ◌∙◌, ap, subst, arith, Option, Some, None, ◌&&◌, map, find, option_map, is_some, bytes_eq, All, list_all, option_map_or, take-take, take_all, QueueRow, Settings, has_path, has_same_paths, first_fault, settings_in, each_of, of_each, of_map, found, find_mapped_at, Flat, first_of_queue, first_of_settings, refreshed_queue, refreshed_settings, lines_refusal, has_its_queues, refresh_refusal, after_refresh, EndsInNone, narrow, SetsNone, HasNone}
 use Rattle.cap_narrow.proofs.Lists.{some_mapped, all_same, maps_meet}
 
 -- ---- the queues that stand, whatever their amounts

@@ -1,35 +1,5 @@
 -- Refusals of calls, and what they read, without the last resource.
-use Rattle.std.proofs.Common.{◌≡◌, ℕ, suc, true, List, [], ◌∷◌, ◌++◌, length, take, refl, sym, ◌∙◌, ap, arith}
-use Rattle.std.specs.Prelude.{is_some, is_none, not, ◌==◌, ◌&&◌, nat_le, nat_lt, nat_eq, map, filter, option_map, bytes_eq}
-use Rattle.std.specs.List.{list_any, list_all, fold, starts_with}
-use Rattle.std.proofs.lemmas.List.{length-map}
-use Rattle.cap_vector.specs.Vector.{amount_max, amount, plus, is_within}
-use Rattle.cap_vector.specs.AmountLaws.{amount-plus}
-use Rattle.cap_vector.proofs.AmountLemmas.{length-plus}
-use Rattle.cap_base.specs.Settings.{QueueRow}
-use Rattle.cap_base.specs.Limits.{number_end, nodes_max, keys_max}
-use Rattle.cap_base.specs.Cascade.{holds_of, earliest}
-use Rattle.cap_base.specs.Amounts.{part}
-use Rattle.cap_base.specs.Texts.{dot}
-use Rattle.cap_model.specs.Asks.{Ask}
-use Rattle.cap_model.specs.declared.refusal.Refusal.{Refusal}
-use Rattle.cap_model.specs.declared.request.Request.{Request}
-use Rattle.cap_base.specs.Paths.{is_under}
-use Rattle.cap_model.specs.Refresh.{first_of_queue}
-use Rattle.cap_model.specs.Flat.{Flat, App, ClusterNode, Container, app_at, node_at, queue_at, containers_of, containers_on}
-use Rattle.cap_model.specs.ResponseIds.{repeats, is_bad}
-use Rattle.cap_model.specs.Asking.{put_ask}
-use Rattle.cap_model.specs.Submit.{has_children, is_running}
-use Rattle.cap_model.specs.Allocate.{is_repeated_allocate, is_too_large, has_too_many_keys}
-use Rattle.cap_model.specs.RegisterNode.{total_of_nodes}
-use Rattle.cap_model.specs.Heartbeat.{is_repeated_heartbeat}
-use Rattle.cap_model.specs.Replies.{refusal_of, may_grow, early_refusal}
-use Rattle.cap_base.proofs.lists.Members.{each_of}
-use Rattle.cap_base.proofs.lists.Filters.{find_mapped_at, filter_mapped}
-use Rattle.cap_base.proofs.lists.Sums.{sum_of_zeros}
-use Rattle.cap_narrow.specs.Narrowing.{EndsInNone}
-use Rattle.cap_narrow.specs.Clusters.{narrow, narrow_ask, narrow_app, narrow_allocate_reply, narrow_node, narrow_container, WantNone, HasNone}
-use Rattle.cap_narrow.specs.Steps.{narrow_request, AsksNone}
+use Rattle.cap_narrow.proofs.Prelude.{◌≡◌, ℕ, suc, true, List, [], ◌∷◌, ◌++◌, length, take, refl, sym, ◌∙◌, ap, arith, is_some, is_none, not, ◌==◌, ◌&&◌, nat_le, nat_lt, nat_eq, map, filter, option_map, bytes_eq, list_any, list_all, fold, starts_with, length-map, amount_max, amount, plus, is_within, amount-plus, length-plus, QueueRow, number_end, nodes_max, keys_max, holds_of, earliest, part, dot, Ask, Refusal, Request, is_under, first_of_queue, Flat, App, ClusterNode, Container, app_at, node_at, queue_at, containers_of, containers_on, repeats, is_bad, put_ask, has_children, is_running, is_repeated_allocate, is_too_large, has_too_many_keys, total_of_nodes, is_repeated_heartbeat, refusal_of, may_grow, early_refusal, each_of, find_mapped_at, filter_mapped, sum_of_zeros, EndsInNone, narrow, narrow_ask, narrow_app, narrow_allocate_reply, narrow_node, narrow_container, WantNone, HasNone, narrow_request, AsksNone}
 use Rattle.cap_narrow.proofs.Lists.{holds_mapped, some_mapped, none_mapped, all_same, any_same}
 use Rattle.cap_narrow.proofs.Vectors.{fits_narrow, plus_narrow, sums_narrow, ends_within, within_narrow, zero_narrow}
 use Rattle.cap_narrow.proofs.Sights.{sum_mapped, app_narrow}

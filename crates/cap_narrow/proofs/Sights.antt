@@ -1,24 +1,5 @@
 -- What is seen of a cluster without the last resource.
-use Rattle.std.proofs.Common.{◌≡◌, ℕ, suc, Bool, true, false, List, ◌++◌, length, take, refl, sym, ◌∙◌, ap}
-use Rattle.std.specs.Prelude.{◌==◌, ◌&&◌, map, filter, option_map, bytes_eq, if◌then◌else◌}
-use Rattle.std.specs.List.{All}
-use Rattle.std.proofs.lemmas.List.{map-append, length-map}
-use Rattle.std.proofs.lemmas.List.Elements.{All-append, All-map, All-filter}
-use Rattle.cap_vector.specs.Vector.{amount, by_amount, less}
-use Rattle.cap_base.specs.Settings.{QueueRow}
-use Rattle.cap_base.specs.Cascade.{holds_of}
-use Rattle.cap_base.specs.Amounts.{sum_where, part}
-use Rattle.cap_base.specs.Paths.{is_under}
-use Rattle.cap_model.specs.Refresh.{first_of_queue}
-use Rattle.cap_model.specs.Flat.{Flat, App, ClusterNode, Container, Reservation, app_at, reservation_on}
-use Rattle.cap_model.specs.Uses.{Holding, holdings, of_container, of_reservation, use_of, queue_use, user_use, node_held, node_free}
-use Rattle.cap_model.specs.Sight.{QueueSight, AppSight, sight_of, app_sight, queue_sight, node_sight}
-use Rattle.cap_base.proofs.lists.Members.{each_of, of_each}
-use Rattle.cap_base.proofs.lists.Sums.{sum_by_map, sum_of_zeros}
-use Rattle.cap_base.proofs.lists.Filters.{find_mapped_at, filter_mapped}
-use Rattle.cap_narrow.specs.Narrowing.{EndsInNone}
-use Rattle.cap_narrow.specs.Clusters.{narrow, narrow_app, narrow_node, narrow_container, narrow_reservation, narrow_sight, narrow_queue_sight, narrow_app_sight, narrow_node_sight, WantNone, HasNone, ShowsNone}
-use Rattle.cap_narrow.specs.ClusterLaws.{UsesNarrow, SightsNarrow, SightsShowNone}
+use Rattle.cap_narrow.proofs.Prelude.{◌≡◌, ℕ, suc, Bool, true, false, List, ◌++◌, length, take, refl, sym, ◌∙◌, ap, ◌==◌, ◌&&◌, map, filter, option_map, bytes_eq, if◌then◌else◌, All, map-append, length-map, All-append, All-map, All-filter, amount, by_amount, less, QueueRow, holds_of, sum_where, part, is_under, first_of_queue, Flat, App, ClusterNode, Container, Reservation, app_at, reservation_on, Holding, holdings, of_container, of_reservation, use_of, queue_use, user_use, node_held, node_free, QueueSight, AppSight, sight_of, app_sight, queue_sight, node_sight, each_of, of_each, sum_by_map, sum_of_zeros, find_mapped_at, filter_mapped, EndsInNone, narrow, narrow_app, narrow_node, narrow_container, narrow_reservation, narrow_sight, narrow_queue_sight, narrow_app_sight, narrow_node_sight, WantNone, HasNone, ShowsNone, UsesNarrow, SightsNarrow, SightsShowNone}
 use Rattle.cap_narrow.proofs.Lists.{holds_mapped, maps_meet}
 use Rattle.cap_narrow.proofs.Vectors.{less_narrow, sums_narrow, ends_within}
 

@@ -1,23 +1,6 @@
 -- A run without the last resource.
-use Rattle.std.proofs.Common.{◌≡◌, ℕ, suc, ◌+◌, List, [], ◌∷◌, ◌++◌, refl, sym, ◌∙◌, ap, subst, inl, inr}
-use Rattle.std.specs.Prelude.{Option, Some, None, ◌==◌, not, map, option_map, unwrap_or}
-use Rattle.std.proofs.lemmas.List.Elements.{All-head, All-tail, All-push, All-filter}
-use Rattle.std.proofs.lemmas.List.{map-append}
-use Rattle.cap_model.specs.News.{Reply}
-use Rattle.cap_model.specs.declared.refusal.Refusal.{Refusal}
+use Rattle.cap_narrow.proofs.Prelude.{◌≡◌, ℕ, suc, ◌+◌, List, [], ◌∷◌, ◌++◌, refl, sym, ◌∙◌, ap, subst, inl, inr, Option, Some, None, ◌==◌, not, map, option_map, unwrap_or, All-head, All-tail, All-push, All-filter, map-append, Reply, Refusal, Request, Flat, App, ClusterNode, Container, Reservation, node_at, sight_of, NodeProposal, IsAdmissible, reason_of, rejected_exactly, Replies, refusal_of, granted_reply, granted_cluster, reply_to, after_request, refused_or, Event, Step, Run, after_grant, after_reserve, news_of, take_one, grant_proposal, reserve_proposal, filter_mapped, EndsInNone, narrow, narrow_proposal, narrow_app, narrow_grant, narrow_node, narrow_container, narrow_reservation, WantNone, HasNone, narrow_request, narrow_reply, narrow_event, AsksNone, EventAsksNone, CallsAskNone, RunsNarrow}
 use Rattle.cap_model.specs.declared.reply.ReplyWith.TheVariants as Reply
-use Rattle.cap_model.specs.declared.request.Request.{Request}
-use Rattle.cap_model.specs.Flat.{Flat, App, ClusterNode, Container, Reservation, node_at}
-use Rattle.cap_model.specs.Sight.{sight_of}
-use Rattle.cap_model.specs.Admission.{NodeProposal, IsAdmissible, reason_of}
-use Rattle.cap_laws.proofs.choice.Reasons.{rejected_exactly}
-use Rattle.cap_model.specs.Replies.{Replies, refusal_of, granted_reply, granted_cluster, reply_to, after_request, refused_or}
-use Rattle.cap_model.specs.declared.event.Event.{Event}
-use Rattle.cap_model.specs.Events.{Step, Run, after_grant, after_reserve, news_of, take_one, grant_proposal, reserve_proposal}
-use Rattle.cap_base.proofs.lists.Filters.{filter_mapped}
-use Rattle.cap_narrow.specs.Narrowing.{EndsInNone}
-use Rattle.cap_narrow.specs.Clusters.{narrow, narrow_proposal, narrow_app, narrow_grant, narrow_node, narrow_container, narrow_reservation, WantNone, HasNone}
-use Rattle.cap_narrow.specs.Steps.{narrow_request, narrow_reply, narrow_event, AsksNone, EventAsksNone, CallsAskNone, RunsNarrow}
 use Rattle.cap_narrow.proofs.Lists.{change_meets, all_changed_if}
 use Rattle.cap_narrow.proofs.Sights.{sights_narrow, sights_show_none}
 use Rattle.cap_narrow.proofs.Reasons.{asked_ends, reasons_narrow}

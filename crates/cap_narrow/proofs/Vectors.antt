@@ -1,22 +1,5 @@
 -- Vectors whose last amount is 0, and their first amounts.
-use Rattle.std.proofs.Common.{◌≡◌, ℕ, zero, suc, ◌+◌, ◌-◌, ◌*◌, ◌<◌, Bool, true, false, List, [], ◌∷◌, ◌++◌, length, take, refl, sym, ◌∙◌, ap, arith}
-use Rattle.std.specs.Prelude.{Some, None, ◌==◌, ◌&&◌, nat_le, min, max, map, cond, if◌then◌else◌}
-use Rattle.std.specs.List.{range_with_len}
-use Rattle.std.specs.Ordering.{nat_cmp, is_lt, ordering_then}
-use Rattle.std.specs.declared.cmp.Ordering.TheVariants.{Equal}
-use Rattle.std.specs.Cmp.Lexicographic.{slice_cmp}
-use Rattle.std.proofs.lemmas.Bool.Decides.{nat_tests}
-use Rattle.std.proofs.lemmas.List.{get_or-take}
-use Rattle.cap_vector.specs.declared.fullness.Share.{Share}
-use Rattle.cap_vector.specs.Vector.{amount, by_amount, plus, less, is_within, is_zero}
-use Rattle.cap_vector.specs.Rounding.{raised_amount}
-use Rattle.cap_vector.specs.Fullness.{share_cmp, fractions, put_share, greatest_first, shares, shares_cmp}
-use Rattle.cap_base.specs.Amounts.{fits, times, sum_where, part}
-use Rattle.cap_base.proofs.lists.Sums.{sum_by_agree}
-use Rattle.cap_base.proofs.Amounts.{amount_of}
-use Rattle.std.proofs.lemmas.List.FromFn.{length-map-range_with_len}
-use Rattle.cap_narrow.specs.Narrowing.{EndsInNone}
-use Rattle.cap_narrow.specs.VectorLaws.{FitsNarrow, MaximumNarrow, UserLimitNarrow, ExchangedNarrow, TimesNarrow, RoundingNarrow, RoundingEndsInNone, FullnessNarrow, SameNarrow}
+use Rattle.cap_narrow.proofs.Prelude.{◌≡◌, ℕ, zero, suc, ◌+◌, ◌-◌, ◌*◌, ◌<◌, Bool, true, false, List, [], ◌∷◌, ◌++◌, length, take, refl, sym, ◌∙◌, ap, arith, Some, None, ◌==◌, ◌&&◌, nat_le, min, max, map, cond, if◌then◌else◌, range_with_len, nat_cmp, is_lt, ordering_then, Equal, slice_cmp, nat_tests, get_or-take, Share, amount, by_amount, plus, less, is_within, is_zero, raised_amount, share_cmp, fractions, put_share, greatest_first, shares, shares_cmp, fits, times, sum_where, part, sum_by_agree, amount_of, length-map-range_with_len, EndsInNone, FitsNarrow, MaximumNarrow, UserLimitNarrow, ExchangedNarrow, TimesNarrow, RoundingNarrow, RoundingEndsInNone, FullnessNarrow, SameNarrow}
 
 pub take_nothing : (K : ℕ) → take {A = ℕ} K [] ≡ []
 take_nothing zero = refl

@@ -1,15 +1,5 @@
 -- Words that stand in a text: in a part of it, in one of its lines, in the key of a line.
-use Rattle.std.proofs.Common.{◌≡◌, ℕ, ◌-◌, Bool, true, false, List, [], ◌∷◌, ◌++◌, length, take, drop, cond, refl, sym, ◌∙◌, ap, subst, inl, inr}
-use Rattle.std.specs.Prelude.{◌==◌, ◌||◌, nat_eq, slice_index}
-use Rattle.std.specs.List.{slice_split, join_with_byte, starts_with, prefix_len, suffix_len}
-use Rattle.std.specs.Str.Lines.{lines, lines_of_parts, strip_carriage_return}
-use Rattle.std.proofs.lemmas.List.{append_assoc, append-nil, take-append-drop}
-use Rattle.std.proofs.lemmas.List.Splits.{join_with_byte-slice_split}
-use Rattle.std.proofs.lemmas.Slice.Eq.{starts_is}
-use Rattle.std.proofs.lemmas.Bool.Decides.{Decides-eqb}
-use Rattle.cap_text.specs.Pieces.{trimmed_bytes, is_space, from_first_word, to_last_word}
-use Rattle.cap_base.specs.Members.{IsIn}
-use Rattle.cap_narrow.specs.Gpus.{stands_in}
+use Rattle.cap_narrow.proofs.Prelude.{◌≡◌, ℕ, ◌-◌, Bool, true, false, List, [], ◌∷◌, ◌++◌, length, take, drop, cond, refl, sym, ◌∙◌, ap, subst, inl, inr, ◌==◌, ◌||◌, nat_eq, slice_index, slice_split, join_with_byte, starts_with, prefix_len, suffix_len, lines, lines_of_parts, strip_carriage_return, append_assoc, append-nil, take-append-drop, join_with_byte-slice_split, starts_is, Decides-eqb, trimmed_bytes, is_space, from_first_word, to_last_word, IsIn, stands_in}
 
 -- a list that stands in another, in one piece
 abbrev pub IsPartOf : List ℕ → List ℕ → Type 0

@@ -1,17 +1,6 @@
 -- What answers payloads by some calls answers them, in the grammar of two resources, by these calls without the third.
-use Rattle.std.proofs.Common.{◌≡◌, ℕ, Bool, true, false, List, [], ◌∷◌, ◌++◌, refl, sym, subst, append-nil}
-use Rattle.std.specs.Prelude.{Option, Some, None, ◌==◌, map, MatchBool, if◌then◌else◌}
-use Rattle.std.specs.List.{All}
-use Rattle.std.proofs.lemmas.List.Elements.{All-nil, All-cons, All-head, All-tail}
-use Rattle.cap_base.specs.Limits.{resources}
-use Rattle.cap_frames.specs.Stream.{Tail}
-use Rattle.cap_grammar.specs.Spelling.{kind_of, IsReply}
-use Rattle.cap_session.specs.Answers.{Call, Answers, nothing, replied, refused}
-use Rattle.cap_world.specs.declared.step.Step.{Step}
+use Rattle.cap_narrow_worlds.proofs.Prelude.{◌≡◌, ℕ, Bool, true, false, List, [], ◌∷◌, ◌++◌, refl, sym, subst, append-nil, Option, Some, None, ◌==◌, map, MatchBool, if◌then◌else◌, All, All-nil, All-cons, All-head, All-tail, resources, Tail, kind_of, IsReply, Call, Answers, nothing, replied, refused, Step, AnswersAll, AnswersSome, Hearing, unopened, live, over, IsHeard, IsCutShort, IsHeardBefore, IsNotOfVersion2, HaveNoVersion2, HeardNoVersion2, brought_to}
 use Rattle.cap_world.specs.declared.step.Step.TheVariants as steps
-use Rattle.cap_world.specs.Answers.{AnswersAll, AnswersSome}
-use Rattle.cap_world.specs.Hearing.{Hearing, unopened, live, over, IsHeard, IsCutShort, IsHeardBefore}
-use Rattle.cap_narrow_worlds.specs.Worlds.{IsNotOfVersion2, HaveNoVersion2, HeardNoVersion2, brought_to}
 use Rattle.cap_narrow_worlds.proofs.Calls.{narrow_call, CallSpellsNone}
 use Rattle.cap_narrow_worlds.proofs.Spelled.{request_narrow, reply_narrow, none_narrow, kind_narrow}
 

@@ -1,17 +1,5 @@
 -- The calls of each connection among events without the third resource, and what they ask for.
-use Rattle.std.proofs.Common.{◌≡◌, ℕ, Bool, true, false, List, [], ◌∷◌, refl, ap}
-use Rattle.std.specs.Prelude.{Some, None, ◌==◌, map, if◌then◌else◌}
-use Rattle.std.specs.List.{All, cons_option}
-use Rattle.std.proofs.lemmas.Bool.{eq-eqb}
-use Rattle.std.proofs.lemmas.List.Elements.{All-nil, All-cons, All-head, All-tail}
-use Rattle.cap_base.specs.Limits.{resources}
-use Rattle.cap_model.specs.declared.request.Request.{Request}
-use Rattle.cap_model.specs.declared.event.Event.{Event}
-use Rattle.cap_session.specs.Answers.{Call}
-use Rattle.cap_world.specs.Answers.{calls_by}
-use Rattle.cap_narrow.specs.Steps.{narrow_request, narrow_reply, narrow_event, AsksNone, EventAsksNone, CallsAskNone}
-use Rattle.cap_narrow.proofs.Gpus.{refreshes_ask_none}
-use Rattle.cap_narrow_worlds.specs.Worlds.{IsNoRaise, RaisesNone}
+use Rattle.cap_narrow_worlds.proofs.Prelude.{◌≡◌, ℕ, Bool, true, false, List, [], ◌∷◌, refl, ap, Some, None, ◌==◌, map, if◌then◌else◌, All, cons_option, eq-eqb, All-nil, All-cons, All-head, All-tail, resources, Request, Event, Call, calls_by, narrow_request, narrow_reply, narrow_event, AsksNone, EventAsksNone, CallsAskNone, refreshes_ask_none, IsNoRaise, RaisesNone}
 use Rattle.cap_narrow_worlds.proofs.Spelled.{SpellsNone}
 
 -- a call without the third resource

@@ -1,3 +1,4 @@
+mod Prelude
 pub mod Spelled
 pub mod Calls
 pub mod Answered

@@ -1,24 +1,6 @@
 -- Messages of version 1 spell nothing of the third resource: what they say, and its spelling, is the same of two resources.
-use Rattle.std.proofs.Common.{◌≡◌, ℕ, zero, suc, ◌≤◌, true, false, List, [], ◌∷◌, ◌++◌, take, Option, Some, None, refl, sym, ◌∙◌, ap, subst, arith, inl, inr}
-use Rattle.std.specs.Prelude.{map, option_map, IfSome, ◌==◌, ◌||◌}
-use Rattle.std.specs.List.{AllByRecursion, flat_map}
-use Rattle.std.specs.Int.{w16, w32, to_be_bytes}
-use Rattle.std.proofs.lemmas.Bool.{and_parts, cases_Bool, eqb-true}
-use Rattle.std.proofs.lemmas.List.{length-map}
-use Rattle.std.proofs.lemmas.List.Elements.{All-nil, All-cons}
-use Rattle.cap_vector.specs.Vector.{IsVector, IsResource, amount, amount_max, sum_max}
-use Rattle.cap_base.specs.Limits.{resources, asks_max, news_max}
-use Rattle.cap_model.specs.Asks.{Ask}
-use Rattle.cap_model.specs.News.{Grant, AllocateReply, Reply}
-use Rattle.cap_model.specs.declared.request.Request.{Request}
+use Rattle.cap_narrow_worlds.proofs.Prelude.{◌≡◌, ℕ, zero, suc, ◌≤◌, true, false, List, [], ◌∷◌, ◌++◌, take, Option, Some, None, refl, sym, ◌∙◌, ap, subst, arith, inl, inr, map, option_map, IfSome, ◌==◌, ◌||◌, AllByRecursion, flat_map, w16, w32, to_be_bytes, and_parts, cases_Bool, eqb-true, length-map, All-nil, All-cons, IsVector, IsResource, amount, amount_max, sum_max, resources, asks_max, news_max, Ask, Grant, AllocateReply, Reply, Request, Head, IsShownVector, is_version, resource, limit, list_bytes, ask, FitsAsk, kind_of, request_body, FitsRequest, IsRequest, IsNoRequest, queue_report, cluster_report, grant, FitsGrant, allocate_bytes, reply_body, IsOfKind, FitsReply, IsReply, EndsInNone, narrow_ask, narrow_grant, narrow_allocate_reply, WantNone, narrow_request, narrow_reply}
 use Rattle.cap_model.specs.declared.reply.ReplyWith.TheVariants as Reply
-use Rattle.cap_grammar.specs.declared.head.Head.{Head}
-use Rattle.cap_grammar.specs.Shown.{IsShownVector}
-use Rattle.cap_grammar.specs.Versions.{is_version}
-use Rattle.cap_grammar.specs.Spelling.{resource, limit, list_bytes, ask, FitsAsk, kind_of, request_body, FitsRequest, IsRequest, IsNoRequest, queue_report, cluster_report, grant, FitsGrant, allocate_bytes, reply_body, IsOfKind, FitsReply, IsReply}
-use Rattle.cap_narrow.specs.Narrowing.{EndsInNone}
-use Rattle.cap_narrow.specs.Clusters.{narrow_ask, narrow_grant, narrow_allocate_reply, WantNone}
-use Rattle.cap_narrow.specs.Steps.{narrow_request, narrow_reply}
 
 -- ---- vectors
 

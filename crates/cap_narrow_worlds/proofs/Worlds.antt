@@ -1,19 +1,5 @@
 -- Worlds in which nobody speaks of the third resource.
-use Rattle.std.proofs.Common.{ℕ, List, length, subst, sym, ap, ◌∙◌}
-use Rattle.std.specs.Prelude.{option_map, slice_get}
-use Rattle.cap_model.specs.Sight.{sight_of}
-use Rattle.cap_model.specs.Candidates.{choice_from}
-use Rattle.cap_session.specs.Answers.{Call}
-use Rattle.cap_world.specs.Answers.{calls_by}
-use Rattle.cap_world.specs.World.{is_open, output_of}
-use Rattle.cap_world.specs.Hearing.{IsHeardBefore}
-use Rattle.cap_world.proofs.Running.{made_steps_have_the_headline}
-use Rattle.cap_world.specs.WorkerLaws.{ProposalsAreOfCopies}
-use Rattle.cap_narrow.specs.Clusters.{narrow_proposal}
-use Rattle.cap_narrow.proofs.Sights.{sights_narrow, sights_show_none}
-use Rattle.cap_narrow.proofs.Choices.{choices_narrow}
-use Rattle.cap_narrow.proofs.Steps.{runs_narrow}
-use Rattle.cap_narrow_worlds.specs.Laws.{TwoResourcesAreKept, ProposalsAreOfTwoResources}
+use Rattle.cap_narrow_worlds.proofs.Prelude.{ℕ, List, length, subst, sym, ap, ◌∙◌, option_map, slice_get, sight_of, choice_from, Call, calls_by, is_open, output_of, IsHeardBefore, made_steps_have_the_headline, ProposalsAreOfCopies, narrow_proposal, sights_narrow, sights_show_none, choices_narrow, runs_narrow, TwoResourcesAreKept, ProposalsAreOfTwoResources}
 use Rattle.cap_narrow_worlds.proofs.Calls.{calls_narrow, events_ask_none}
 use Rattle.cap_narrow_worlds.proofs.Answered.{before_narrow}
 

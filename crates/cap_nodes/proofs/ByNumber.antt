@@ -1,17 +1,6 @@
 -- The live containers by number, as one more comes and one goes.
-use Rattle.std.proofs.Common.{◌≡◌, ℕ, ◌+◌, ◌≤◌, ◌<◌, List, [], ◌∷◌, ◌++◌, length, length-append, map, not, sym, ap, ◌∙◌, arith, subst, Option, None, Some}
-use Rattle.std.specs.Prelude.{filter, find, ◌==◌, IfSome}
-use Rattle.std.specs.Ordering.{nat_cmp}
-use Rattle.std.specs.BTreeMap.{insert_entry, is_at}
-use Rattle.std.specs.Map.{lookup, remove_entry, values_of}
-use Rattle.cap_base.specs.Limits.{live_max}
-use Rattle.cap_base.specs.Members.{IsRising}
-use Rattle.cap_model.specs.Flat.{Container}
-use Rattle.cap_model.proofs.lists.Numbered.{rising_kept, rising_more}
-use Rattle.cap_base.proofs.lists.Filters.{length-kept}
+use Rattle.cap_nodes.proofs.Prelude.{◌≡◌, ℕ, ◌+◌, ◌≤◌, ◌<◌, List, [], ◌∷◌, ◌++◌, length, length-append, map, not, sym, ap, ◌∙◌, arith, subst, Option, None, Some, filter, find, ◌==◌, IfSome, nat_cmp, insert_entry, is_at, lookup, remove_entry, values_of, live_max, IsRising, Container, rising_kept, rising_more, length-kept, nat_tests, tagged_items, IsContainerTable}
 use Rattle.cap_base.proofs.lists.Members.{found as passes_found}
-use Rattle.std.proofs.lemmas.Bool.Decides.{nat_tests}
-use Rattle.cap_nodes.specs.Loads.{tagged_items, IsContainerTable}
 use Rattle.cap_nodes.proofs.Numbered.{remove-tagged, insert-tagged, same_tie, lookup-tagged, none_at_end, values-tagged}
 
 pub found : (entries : List (ℕ × Container)) (next n : ℕ) → IsContainerTable entries next → lookup (is_at (nat_cmp n)) entries ≡ find (λ c. c.number == n) (values_of entries)

@@ -1,25 +1,6 @@
 -- The table as nodes and containers come and go.
-use Rattle.std.proofs.Common.{◌≡◌, ℕ, ◌+◌, ◌≤◌, Bool, true, false, cond, List, [], ◌∷◌, ◌++◌, length, map, not, sym, ap, ◌∙◌, arith, subst, refl, Option, Some, None}
-use Rattle.std.specs.Prelude.{filter, find, count_by, ◌==◌, IsSome, IfSome, slice_get, ◌||◌, option_and_then, option_map}
-use Rattle.std.specs.List.{All, sum, sum_by, list_any, AllByRecursion}
-use Rattle.std.proofs.lemmas.List.Elements.{All-from_recursion}
-use Rattle.cap_base.proofs.Amounts.{amounts_fit}
-use Rattle.std.proofs.lemmas.Bool.{eqb-true}
-use Rattle.std.proofs.lemmas.Bool.Decides.{nat_tests}
-use Rattle.std.proofs.lemmas.List.Sums.{length-filter, sum-map}
-use Rattle.std.proofs.lemmas.List.{map_push}
-use Rattle.std.proofs.lemmas.Option.{slice_get-map}
-use Rattle.cap_vector.specs.Vector.{amount, by_amount, plus, less, Fits, IsWithin, amount_max, zeros}
-use Rattle.cap_base.specs.Amounts.{fits, sum_where}
-use Rattle.cap_base.proofs.lists.Members.{found}
-use Rattle.cap_base.proofs.lists.Filters.{filter_mapped, find_mapped_at, map_twice}
-use Rattle.cap_base.specs.Members.{IsRising}
-use Rattle.cap_model.specs.declared.replies.HeartbeatReply.{HeartbeatReply}
-use Rattle.cap_model.specs.Flat.{ClusterNode, Container, Reservation}
-use Rattle.cap_model.specs.RegisterNode.{sum_of_totals}
-use Rattle.cap_model.specs.Heartbeat.{after_beat}
-use Rattle.cap_nodes.specs.Tables.{IsSound, left_of}
-use Rattle.cap_nodes.specs.Loads.{Load, IsTied, AreTied, load_at, change_load, held_more, held_less, beaten_load, HasOne, HaveReservations, reservation_of}
+use Rattle.cap_nodes.proofs.Prelude.{◌≡◌, ℕ, ◌+◌, ◌≤◌, Bool, true, false, cond, List, [], ◌∷◌, ◌++◌, length, map, not, sym, ap, ◌∙◌, arith, subst, refl, Option, Some, None, filter, find, count_by, ◌==◌, IsSome, IfSome, ◌||◌, option_and_then, option_map, All, sum, sum_by, list_any, AllByRecursion, All-from_recursion, amounts_fit, eqb-true, nat_tests, length-filter, sum-map, map_push, slice_get-map, amount, by_amount, plus, less, Fits, IsWithin, amount_max, zeros, fits, sum_where, found, filter_mapped, find_mapped_at, map_twice, IsRising, HeartbeatReply, ClusterNode, Container, Reservation, sum_of_totals, after_beat, IsSound, left_of, Load, IsTied, AreTied, load_at, change_load, held_more, held_less, beaten_load, HasOne, HaveReservations, reservation_of}
+use Rattle.std.specs.Prelude.{slice_get}
 use Rattle.cap_nodes.proofs.Numbered.{found-change, none_at_end, kept-change}
 use Rattle.cap_nodes.proofs.Presents.{not_none}
 use Rattle.cap_nodes.proofs.Sums.{where-none, filter-none, none-filter, zeros-fit, where-less-own, where-had, sum-without}

@@ -2,6 +2,7 @@ pub mod Numbered
 pub mod ByNumber
 pub mod Pairs
 pub mod Owned
+mod Prelude
 pub mod Presents
 pub mod Sums
 pub mod Ties

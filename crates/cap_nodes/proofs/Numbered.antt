@@ -1,15 +1,5 @@
 -- Items by their numbers, which rise.
-use Rattle.std.proofs.Common.{◌≡◌, ℕ, ◌+◌, ◌≤◌, ◌<◌, Bool, true, false, List, [], ◌∷◌, ◌++◌, cond, not, map, refl, sym, ap, ◌∙◌, arith, Some, None}
-use Rattle.std.specs.Prelude.{find, filter, option_map, ◌==◌, nat_eq}
-use Rattle.std.specs.Ordering.{nat_cmp}
-use Rattle.std.specs.declared.cmp.Ordering.TheVariants.{Greater}
-use Rattle.std.specs.Map.{lookup, remove_entry, set_value, values_of}
-use Rattle.std.specs.BTreeMap.{insert_entry, is_at}
-use Rattle.std.specs.Cmp.{unsigned_ties, nat_cmp_is}
-use Rattle.std.proofs.lemmas.Bool.Decides.{nat_tests}
-use Rattle.cap_base.specs.Members.{IsRising}
-use Rattle.cap_model.proofs.lists.Numbered.{find_changed, rising_ends}
-use Rattle.cap_nodes.specs.Loads.{tagged_items}
+use Rattle.cap_nodes.proofs.Prelude.{◌≡◌, ℕ, ◌+◌, ◌≤◌, ◌<◌, Bool, true, false, List, [], ◌∷◌, ◌++◌, cond, not, map, refl, sym, ap, ◌∙◌, arith, Some, None, find, filter, option_map, ◌==◌, nat_eq, nat_cmp, Greater, lookup, remove_entry, set_value, values_of, insert_entry, is_at, unsigned_ties, nat_cmp_is, nat_tests, IsRising, find_changed, rising_ends, tagged_items}
 
 -- the tests of maps by number
 pub same_number : (n k : ℕ) → nat_eq n k ≡ (k == n)

@@ -1,11 +1,5 @@
 -- The live containers of an owner, which is an application or a node.
-use Rattle.std.proofs.Common.{◌≡◌, ℕ, ◌+◌, ◌≤◌, ◌<◌, Bool, true, false, cond, List, [], ◌∷◌, ◌++◌, map, not, sym, ap, ◌∙◌, arith, subst, refl, Some, None}
-use Rattle.std.specs.Prelude.{filter, find, ◌==◌, ◌&&◌, ◌||◌, nat_lt}
-use Rattle.std.proofs.lemmas.Bool.Decides.{nat_tests}
-use Rattle.cap_base.specs.Members.{IsRising}
-use Rattle.cap_model.specs.Flat.{Container}
-use Rattle.cap_model.proofs.lists.Numbered.{find_gone, find_others, none_before}
-use Rattle.cap_nodes.specs.Loads.{IsOwnerIndex, is_of, has_pair, HasMore, HasLess}
+use Rattle.cap_nodes.proofs.Prelude.{◌≡◌, ℕ, ◌+◌, ◌≤◌, ◌<◌, Bool, true, false, cond, List, [], ◌∷◌, ◌++◌, map, not, sym, ap, ◌∙◌, arith, subst, refl, Some, None, filter, find, ◌==◌, ◌&&◌, ◌||◌, nat_lt, nat_tests, IsRising, Container, find_gone, find_others, none_before, IsOwnerIndex, is_of, has_pair, HasMore, HasLess}
 
 find_pushed : (n : ℕ) (cs : List Container) (c : Container) → find (λ x. x.number == c.number) cs ≡ None →
     find (λ x. x.number == n) (cs ++ c ∷ []) ≡ cond (c.number == n) (Some c) (find (λ x. x.number == n) cs)

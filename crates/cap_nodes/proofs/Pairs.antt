@@ -1,13 +1,5 @@
 -- Pairs in order.
-use Rattle.std.proofs.Common.{◌≡◌, ℕ, ◌≤◌, ◌<◌, Bool, true, false, cond, List, ◌∷◌, not, sym, ap, ◌∙◌, arith, subst, refl}
-use Rattle.std.specs.Prelude.{◌==◌, ◌&&◌, ◌||◌, nat_lt, IfSome, IsTrue, ⊤}
-use Rattle.std.specs.List.{slice_get}
-use Rattle.std.specs.Ordering.{nat_cmp, ordering_then, is_gt}
-use Rattle.std.specs.declared.cmp.Ordering.TheVariants.{Less, Equal, Greater}
-use Rattle.std.specs.BTreeMap.{is_at}
-use Rattle.std.specs.Cmp.{both_tied, unsigned_ties}
-use Rattle.std.proofs.lemmas.Bool.Decides.{nat_tests}
-use Rattle.cap_nodes.specs.Loads.{pair_cmp, has_pair}
+use Rattle.cap_nodes.proofs.Prelude.{◌≡◌, ℕ, ◌≤◌, ◌<◌, Bool, true, false, cond, List, ◌∷◌, not, sym, ap, ◌∙◌, arith, subst, refl, ◌==◌, ◌&&◌, ◌||◌, nat_lt, IfSome, IsTrue, ⊤, slice_get, nat_cmp, ordering_then, is_gt, Less, Equal, Greater, is_at, both_tied, unsigned_ties, nat_tests, pair_cmp, has_pair}
 
 pub same_pair : (a n b m : ℕ) → is_at (pair_cmp (a, n)) (b, m) ≡ (a == b && n == m)
 same_pair a n b m = sym (both_tied (a == b) (n == m) (nat_cmp a b) (nat_cmp n m) (unsigned_ties a b) (unsigned_ties n m))

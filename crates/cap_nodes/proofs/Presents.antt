@@ -1,20 +1,6 @@
 -- The present nodes by number, as one more comes, one changes and one goes.
-use Rattle.std.proofs.Common.{◌≡◌, ℕ, ◌+◌, ◌-◌, ◌≤◌, ◌<◌, Bool, true, false, cond, List, [], ◌∷◌, ◌++◌, length, length-append, map, not, refl, sym, ap, ◌∙◌, arith, subst, inl, inr, zero, suc, slice_get, Option, Some, None}
-use Rattle.std.specs.Prelude.{filter, ◌==◌, ◌||◌, nat_eq, bytes_eq, count_by, is_some, ◌↔◌, IfSome, IsSome, if◌then◌else◌}
-use Rattle.std.specs.List.{list_any, sum}
-use Rattle.std.proofs.lemmas.List.{length-map}
-use Rattle.std.proofs.lemmas.List.Sums.{sum-map}
-use Rattle.std.proofs.lemmas.Option.{same_Some}
-use Rattle.std.proofs.lemmas.Slice.Eq.{bytes_eq-Decides}
-use Rattle.std.specs.Map.{lookup, remove_entry, set_value, values_of}
-use Rattle.cap_base.specs.Members.{IsRising}
-use Rattle.cap_base.specs.Limits.{nodes_max}
-use Rattle.cap_base.specs.Texts.{is_text}
-use Rattle.cap_base.proofs.lists.Sums.{one_where, count_cons}
-use Rattle.cap_base.proofs.lists.Members.{IsIn}
-use Rattle.cap_model.proofs.lists.Numbered.{rising_kept, rising_more, found_by_number}
-use Rattle.cap_base.proofs.lists.Filters.{length-kept}
-use Rattle.cap_nodes.specs.Loads.{Load, AreHosts, HasCount, IsPresent, tagged_items, load_at, change_load, some_count}
+use Rattle.cap_nodes.proofs.Prelude.{◌≡◌, ℕ, ◌+◌, ◌-◌, ◌≤◌, ◌<◌, Bool, true, false, cond, List, [], ◌∷◌, ◌++◌, length, length-append, map, not, refl, sym, ap, ◌∙◌, arith, subst, inl, inr, zero, suc, Option, Some, None, filter, ◌==◌, ◌||◌, nat_eq, bytes_eq, count_by, is_some, ◌↔◌, IfSome, IsSome, if◌then◌else◌, list_any, sum, length-map, sum-map, same_Some, bytes_eq-Decides, lookup, remove_entry, set_value, values_of, IsRising, nodes_max, is_text, one_where, count_cons, IsIn, rising_kept, rising_more, found_by_number, length-kept, Load, AreHosts, HasCount, IsPresent, tagged_items, load_at, change_load, some_count}
+use Rattle.std.proofs.Common.{slice_get}
 use Rattle.cap_nodes.proofs.Sums.{count-push, sum-without}
 use Rattle.cap_nodes.proofs.Numbered.{remove-tagged, push-tagged, set-tagged, lookup-tagged, same_number, values-tagged, kept-change, none_at_end}
 

@@ -1,15 +1,5 @@
 -- The one reservation that a node holds at most, dropped.
-use Rattle.std.proofs.Common.{◌≡◌, ℕ, ◌+◌, Bool, true, false, cond, List, [], ◌∷◌, map, Option, Some, None, refl, sym, ◌∙◌, ap, arith}
-use Rattle.std.specs.Prelude.{filter, find, option_map, not, nat_lt, ◌==◌, ◌&&◌}
-use Rattle.std.specs.List.{list_any}
-use Rattle.std.proofs.lemmas.Bool.Decides.{nat_tests}
-use Rattle.cap_model.specs.Flat.{Container, Reservation}
-use Rattle.cap_model.specs.Bounds.{AreApart}
-use Rattle.cap_base.specs.Members.{IsRising}
-use Rattle.cap_base.proofs.lists.Members.{found, none_in}
-use Rattle.cap_base.proofs.lists.Filters.{filter_whole, find_mapped_at}
-use Rattle.cap_model.proofs.lists.Numbered.{rising_from_low}
-use Rattle.cap_nodes.specs.Loads.{made_after, reservation_of}
+use Rattle.cap_nodes.proofs.Prelude.{◌≡◌, ℕ, ◌+◌, Bool, true, false, cond, List, [], ◌∷◌, map, Option, Some, None, refl, sym, ◌∙◌, ap, arith, filter, find, option_map, not, nat_lt, ◌==◌, ◌&&◌, list_any, nat_tests, Container, Reservation, AreApart, IsRising, found, none_in, filter_whole, find_mapped_at, rising_from_low, made_after, reservation_of}
 use Rattle.cap_nodes.proofs.Numbered.{none_gone, not_later}
 use Rattle.cap_nodes.proofs.Walked.{above, above_zero, all_above, find_above, first_kept}
 

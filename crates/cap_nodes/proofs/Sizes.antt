@@ -1,14 +1,11 @@
 -- The parts of a table of nodes are no larger than memory, as the table is.
-use Rattle.std.proofs.Common.{◌≡◌, ℕ, ◌≤◌, ◌<◌, ◌^◌, arith, refl, subst}
-use Rattle.std.specs.Borrow.{RattleType}
-use Rattle.std.specs.Mem.{FitsInMemory}
+use Rattle.cap_nodes.proofs.Prelude.{◌≡◌, ℕ, ◌≤◌, ◌<◌, ◌^◌, arith, refl, subst, RattleType, FitsInMemory, resources_max}
 use mathlib.Core.Option.{some}
 use mir.Syntax.{Sym, Ty, Tys}
 use mir.Syntax.Ty.{ty_struct}
 use prog.Memory.{size, field_at}
 use prog.Align.{field_in}
 use denote.Param.{layout, number, param}
-use Rattle.cap_base.specs.Limits.{resources_max}
 use Rattle.cap_vector.specs.contracts.vector.Amounts as amounts
 use Rattle.cap_model.specs.contracts.container.Container as container
 use Rattle.cap_model.specs.contracts.container.Reservation as reservation

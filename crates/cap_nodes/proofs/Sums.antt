@@ -1,19 +1,5 @@
 -- What the live containers on a node hold, and how many they are, as one more comes and one goes.
-use Rattle.std.proofs.Common.{◌≡◌, ℕ, ◌+◌, ◌-◌, ◌≤◌, ◌<◌, Bool, true, false, cond, List, [], ◌∷◌, ◌++◌, length, get_or, map, not, sym, ap, ◌∙◌, arith, subst, refl, Some, inl, inr}
-use Rattle.std.specs.Prelude.{filter, find, count_by, ◌==◌}
-use Rattle.std.specs.List.{sum_by, AllByRecursion}
-use Rattle.std.proofs.lemmas.Option.{same_Some}
-use Rattle.std.proofs.lemmas.Bool.Decides.{nat_tests}
-use Rattle.std.proofs.lemmas.List.{ext_get_or, get_or_past, get_or-replicate, length-replicate}
-use Rattle.std.proofs.lemmas.Bool.{cases_lt}
-use Rattle.std.proofs.lemmas.List.Sums.{sum_by_push, sum_by-cons}
-use Rattle.std.proofs.lemmas.List.FromFn.{length-map-range_with_len}
-use Rattle.cap_vector.specs.Vector.{amount, by_amount, plus, less, zeros, Fits, IsWithin}
-use Rattle.cap_vector.proofs.AmountLemmas.{amount-plus, amount-less, amount-zeros, length-less}
-use Rattle.cap_base.specs.Amounts.{sum_where, part}
-use Rattle.cap_base.specs.Members.{IsRising}
-use Rattle.cap_base.proofs.Amounts.{amount_of}
-use Rattle.cap_base.proofs.lists.Sums.{one_where}
+use Rattle.cap_nodes.proofs.Prelude.{◌≡◌, ℕ, ◌+◌, ◌-◌, ◌≤◌, ◌<◌, Bool, true, false, cond, List, [], ◌∷◌, ◌++◌, length, get_or, map, not, sym, ap, ◌∙◌, arith, subst, refl, Some, inl, inr, filter, find, count_by, ◌==◌, sum_by, AllByRecursion, same_Some, nat_tests, ext_get_or, get_or_past, get_or-replicate, length-replicate, cases_lt, sum_by_push, sum_by-cons, length-map-range_with_len, amount, by_amount, plus, less, zeros, Fits, IsWithin, amount-plus, amount-less, amount-zeros, length-less, sum_where, part, IsRising, amount_of, one_where}
 use Rattle.cap_nodes.proofs.Numbered.{not_later}
 
 -- a sum of no totals, and one without a total, is within the bound

@@ -1,18 +1,5 @@
 -- Nodes and what their containers hold, as a container comes and goes.
-use Rattle.std.proofs.Common.{◌≡◌, ℕ, ◌+◌, ◌-◌, ◌≤◌, ◌<◌, Bool, true, false, cond, List, [], ◌∷◌, ◌++◌, length, map, not, sym, ap, ◌∙◌, arith, subst, refl, Option, Some, None}
-use Rattle.std.specs.Prelude.{filter, find, count_by, ◌==◌, IsSome, option_map}
-use Rattle.std.specs.List.{sum_by, AllByRecursion}
-use Rattle.std.proofs.lemmas.Option.{same_Some}
-use Rattle.std.proofs.lemmas.Bool.Decides.{nat_tests}
-use Rattle.std.proofs.lemmas.List.Sums.{count_by-le-length}
-use Rattle.cap_vector.specs.Vector.{plus, less, Fits}
-use Rattle.cap_vector.proofs.AmountLemmas.{amount-plus, amount-less}
-use Rattle.cap_base.specs.Limits.{live_max}
-use Rattle.cap_base.specs.Amounts.{sum_where}
-use Rattle.cap_base.specs.Members.{IsRising}
-use Rattle.cap_model.specs.Flat.{Container}
-use Rattle.cap_base.proofs.lists.Sums.{one_where}
-use Rattle.cap_nodes.specs.Loads.{Load, IsTied, load_at, change_load, held_more, held_less, CanHold, HasOne}
+use Rattle.cap_nodes.proofs.Prelude.{◌≡◌, ℕ, ◌+◌, ◌-◌, ◌≤◌, ◌<◌, Bool, true, false, cond, List, [], ◌∷◌, ◌++◌, length, map, not, sym, ap, ◌∙◌, arith, subst, refl, Option, Some, None, filter, find, count_by, ◌==◌, IsSome, option_map, sum_by, AllByRecursion, same_Some, nat_tests, count_by-le-length, plus, less, Fits, amount-plus, amount-less, live_max, sum_where, IsRising, Container, one_where, Load, IsTied, load_at, change_load, held_more, held_less, CanHold, HasOne}
 use Rattle.cap_nodes.proofs.Numbered.{found-change}
 use Rattle.cap_nodes.proofs.Sums.{where-push-other, where-push-own, where-less-other, where-less-own, where-had, sum-without, count-push}
 

@@ -1,19 +1,5 @@
 -- The containers of an application, one after the other.
-use Rattle.std.proofs.Common.{◌≡◌, ℕ, zero, suc, ◌+◌, ◌-◌, ◌<◌, Bool, true, false, cond, List, [], ◌∷◌, map, length, refl, sym, ◌∙◌, ap, subst, arith, Option, Some, None}
-use Rattle.std.specs.Prelude.{filter, find, option_map, ◌==◌, ◌&&◌, nat_lt}
-use Rattle.std.specs.List.{slice_get}
-use Rattle.std.proofs.Math.Bool.{and-true, and-false}
-use Rattle.std.proofs.lemmas.Option.{slice_get-map}
-use Rattle.std.proofs.lemmas.List.{length-map}
-use Rattle.std.proofs.lemmas.Bool.Decides.{nat_tests}
-use Rattle.cap_model.specs.declared.ask.Key.{Key}
-use Rattle.cap_model.specs.Asks.{same_key}
-use Rattle.cap_base.specs.Members.{IsRising}
-use Rattle.cap_model.specs.Flat.{Container, Reservation, is_for}
-use Rattle.cap_base.proofs.lists.Members.{found}
-use Rattle.cap_base.proofs.lists.Filters.{filter_mapped, filter_whole, find_mapped_at}
-use Rattle.cap_model.proofs.lists.Numbered.{rising_from_low, rising_to_high}
-use Rattle.cap_nodes.specs.Loads.{is_kept_for, reservation_of}
+use Rattle.cap_nodes.proofs.Prelude.{◌≡◌, ℕ, zero, suc, ◌+◌, ◌-◌, ◌<◌, Bool, true, false, cond, List, [], ◌∷◌, map, length, refl, sym, ◌∙◌, ap, subst, arith, Option, Some, None, filter, find, option_map, ◌==◌, ◌&&◌, nat_lt, slice_get, and-true, and-false, slice_get-map, length-map, nat_tests, Key, same_key, IsRising, Container, Reservation, is_for, found, filter_mapped, filter_whole, find_mapped_at, rising_from_low, rising_to_high, is_kept_for, reservation_of}
 
 -- those above a number
 abbrev pub above : ℕ → List Container → List Container

@@ -1,25 +1,5 @@
 -- When an ask of a snapshot is admitted on a node.
-use Rattle.std.proofs.Common.{◌≡◌, ℕ, ◌<◌, ◌≤◌, Bool, true, false, cond, List, [], Some, None, refl, sym, ◌∙◌, ap, subst, inl, inr, arith}
-use Rattle.std.specs.Prelude.{◌⊎◌, Option, is_none, is_some, unwrap_or, option_map, option_and_then, ◌&&◌, nat_le, nat_lt, bytes_eq}
-use Rattle.std.specs.Option.{option_map_or}
-use Rattle.std.specs.List.{list_all}
-use Rattle.std.proofs.lemmas.Bool.{and_parts}
-use Rattle.std.proofs.lemmas.Bool.Decides.{nat_tests}
-use Rattle.cap_vector.specs.Vector.{amounts_exchanged, zeros}
-use Rattle.cap_base.specs.Limits.{live_max, number_end}
-use Rattle.cap_base.specs.Cascade.{holds_of}
-use Rattle.cap_base.specs.Amounts.{fits}
-use Rattle.cap_model.specs.declared.proposal.ProposalKind.{ProposalKind}
-use Rattle.cap_model.specs.declared.proposal.ProposalKind.TheVariants.{Grant, Reserve}
-use Rattle.cap_model.specs.Flat.{Reservation, ask_at, is_for}
-use Rattle.cap_model.specs.Asks.{Ask}
-use Rattle.cap_model.specs.Sight.{Sight, AppSight, NodeSight, seen_node, seen_queue, still_wanted, queues_to, QueueSight}
-use Rattle.cap_model.specs.Admission.{NodeProposal, IsAdmissible, NeedsOf, asks_resource, fits_free, fits_total, is_grant, is_wanted, leaf_path, node_reservation, proposed_ask, stays_in_maxima, stays_in_user_limit, suits_place, takes_place, use_after, user_name}
-use Rattle.cap_base.specs.LimitTests.{fits_maximum, fits_user_limit}
-use Rattle.cap_base.proofs.lists.Tests.{bytes_itself}
-use Rattle.cap_copy.specs.AskEntry.{AskEntry}
-use Rattle.cap_copy.specs.Snapshot.{IsAskEntry, QueueUse, Seen, sight_in, stays_within}
-use Rattle.cap_propose.specs.Proposing.{IsSeenNode, IsAdmittedAs, IsClosed, IsOpen, has_numbers, is_in_limits, kind_beside, kind_by_room, proposal_of, room_back, room_kind, takes}
+use Rattle.cap_propose.proofs.Prelude.{◌≡◌, ℕ, ◌<◌, ◌≤◌, Bool, true, false, cond, List, [], Some, None, refl, sym, ◌∙◌, ap, subst, inl, inr, arith, ◌⊎◌, Option, is_none, is_some, unwrap_or, option_map, option_and_then, ◌&&◌, nat_le, nat_lt, bytes_eq, option_map_or, list_all, and_parts, nat_tests, amounts_exchanged, zeros, live_max, number_end, holds_of, fits, ProposalKind, Grant, Reserve, Reservation, ask_at, is_for, Ask, Sight, AppSight, NodeSight, seen_node, seen_queue, still_wanted, queues_to, QueueSight, NodeProposal, IsAdmissible, NeedsOf, asks_resource, fits_free, fits_total, is_grant, is_wanted, leaf_path, node_reservation, proposed_ask, stays_in_maxima, stays_in_user_limit, suits_place, takes_place, use_after, user_name, fits_maximum, fits_user_limit, bytes_itself, AskEntry, IsAskEntry, QueueUse, Seen, sight_in, stays_within, IsSeenNode, IsAdmittedAs, IsClosed, IsOpen, has_numbers, is_in_limits, kind_beside, kind_by_room, proposal_of, room_back, room_kind, takes}
 use Rattle.cap_propose.proofs.WithinLimits.{all_mapped, same_exchange}
 
 -- the kind for which there is room, over plain tests

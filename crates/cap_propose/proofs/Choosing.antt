@@ -1,26 +1,5 @@
 -- The choice on a node is the first ask, in the order of service, that is admitted there.
-use Rattle.std.proofs.Common.{◌≡◌, ℕ, zero, suc, true, false, List, [], ◌∷◌, ◌++◌, Some, None, refl, sym, ◌∙◌, ap, subst, inl, inr, arith}
-use Rattle.std.specs.Prelude.{◌==◌, ◌⊎◌, Option, option_and_then, bytes_eq, filter, find}
-use Rattle.std.specs.List.{slice_get}
-use Rattle.std.specs.Ordering.{is_gt}
-use Rattle.std.proofs.lemmas.Bool.{and_parts}
-use Rattle.std.proofs.lemmas.Bool.Decides.{nat_tests}
-use Rattle.std.proofs.lemmas.Slice.Eq.{bytes_eq-Decides}
-use Rattle.cap_model.specs.declared.proposal.ProposalKind.{ProposalKind}
-use Rattle.cap_model.specs.Asks.{Ask, same_key}
-use Rattle.cap_base.specs.Cascade.{holds_of}
-use Rattle.cap_model.specs.Flat.{ask_at}
-use Rattle.cap_model.specs.Sight.{Sight, AppSight, NodeSight, seen_app}
-use Rattle.cap_model.specs.Admission.{NodeProposal, IsAdmissible}
-use Rattle.cap_model.specs.Choice.{rank_cmp, rank_of, is_after}
-use Rattle.cap_model.specs.Candidates.{choice_on}
-use Rattle.cap_laws.proofs.choice.Choosing.{choice_is_computed}
-use Rattle.cap_model.proofs.choice.Orders.{rank_cmp_total, not_after_itself}
-use Rattle.cap_base.proofs.lists.Members.{IsIn, each_of, found, in_either, of_filter, of_map}
-use Rattle.cap_copy.specs.AskEntry.{AskEntry}
-use Rattle.cap_copy.specs.Snapshot.{Seen, IsSnapshot, IsAskEntry, AreServedInOrder, asks_for, asks_served, grant_of, served_cmp, sight_in}
-use Rattle.cap_propose.specs.Proposing.{IsAdmittedAs, IsSeenNode, proposal_of}
-use Rattle.cap_copy.proofs.LoopSteps.{index_in, slice_get_in}
+use Rattle.cap_propose.proofs.Prelude.{◌≡◌, ℕ, zero, suc, true, false, List, [], ◌∷◌, ◌++◌, Some, None, refl, sym, ◌∙◌, ap, subst, inl, inr, arith, ◌==◌, ◌⊎◌, Option, option_and_then, bytes_eq, filter, find, slice_get, is_gt, and_parts, nat_tests, bytes_eq-Decides, ProposalKind, Ask, same_key, holds_of, ask_at, Sight, AppSight, NodeSight, seen_app, NodeProposal, IsAdmissible, rank_cmp, rank_of, is_after, choice_on, choice_is_computed, rank_cmp_total, not_after_itself, IsIn, each_of, found, in_either, of_filter, of_map, AskEntry, Seen, IsSnapshot, IsAskEntry, AreServedInOrder, asks_for, asks_served, grant_of, served_cmp, sight_in, IsAdmittedAs, IsSeenNode, proposal_of, index_in, slice_get_in}
 use Rattle.cap_propose.proofs.Unique.{one_on_node}
 
 module _ (K : ℕ) (seen : Seen) where

@@ -1,28 +1,6 @@
 -- The choice on a node that holds a reservation.
-use Rattle.std.proofs.Common.{◌≡◌, ℕ, ◌+◌, ◌<◌, ◌≤◌, Bool, true, false, cond, length, Some, None, refl, sym, ◌∙◌, ap, subst, inl, inr, arith}
-use Rattle.std.specs.Prelude.{◌&&◌, ◌⊎◌, ◌==◌, option_and_then, unwrap_or}
-use Rattle.std.specs.List.{slice_get}
-use Rattle.std.proofs.lemmas.Bool.{and_parts, cases_Bool, cases_lt}
-use Rattle.std.specs.Ordering.{is_gt}
-use Rattle.std.proofs.lemmas.Bool.Decides.{nat_tests}
-use Rattle.std.proofs.lemmas.Option.{slice_get_within}
-use Rattle.cap_model.specs.declared.proposal.ProposalKind.{ProposalKind}
-use Rattle.cap_model.specs.declared.proposal.ProposalKind.TheVariants.{Grant}
-use Rattle.cap_base.specs.Amounts.{fits}
-use Rattle.cap_base.proofs.lists.Members.{IsIn, each_of}
-use Rattle.cap_model.specs.Asks.{same_key}
-use Rattle.cap_model.specs.Flat.{Reservation, ask_at, is_for}
-use Rattle.cap_model.specs.Sight.{AppSight, NodeSight, seen_app}
-use Rattle.cap_model.specs.Admission.{IsAdmissible}
-use Rattle.cap_model.specs.Candidates.{choice_on}
-use Rattle.cap_model.specs.Choice.{rank_cmp, rank_of}
-use Rattle.cap_model.proofs.calls.KeptAsks.{same_key_is}
-use Rattle.cap_copy.specs.AskEntry.{AskEntry}
-use Rattle.cap_copy.specs.AskRanges.{AreInside}
-use Rattle.cap_copy.specs.Snapshot.{IsAskEntry, IsSnapshot, Seen, grant_of, sight_in}
-use Rattle.cap_propose.specs.Proposing.{AreForOthers, IsAdmittedAs, IsSeenNode, kind_beside, proposal_of}
+use Rattle.cap_propose.proofs.Prelude.{◌≡◌, ℕ, ◌+◌, ◌<◌, ◌≤◌, Bool, true, false, cond, length, Some, None, refl, sym, ◌∙◌, ap, subst, inl, inr, arith, ◌&&◌, ◌⊎◌, ◌==◌, option_and_then, unwrap_or, slice_get, and_parts, cases_Bool, cases_lt, is_gt, nat_tests, slice_get_within, ProposalKind, Grant, fits, IsIn, each_of, same_key, Reservation, ask_at, is_for, AppSight, NodeSight, seen_app, IsAdmissible, choice_on, rank_cmp, rank_of, same_key_is, AskEntry, AreInside, IsAskEntry, IsSnapshot, Seen, grant_of, sight_in, AreForOthers, IsAdmittedAs, IsSeenNode, kind_beside, proposal_of, index_in}
 use Rattle.cap_propose.proofs.Admitting.{without_room}
-use Rattle.cap_copy.proofs.LoopSteps.{index_in}
 use Rattle.cap_propose.proofs.Choosing.{entry_is, least_chosen, none_chosen, not_after_same}
 
 -- a reservation is no larger than a proposal

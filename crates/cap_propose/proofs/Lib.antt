@@ -3,6 +3,7 @@ pub mod Choosing
 pub mod Converting
 pub mod Fitting
 pub mod Passing
+mod Prelude
 pub mod Ring
 pub mod Unique
 pub mod Walking

@@ -1,17 +1,5 @@
 -- The nodes of the ring without a reservation that are passed over, since no ask is admitted there.
-use Rattle.std.proofs.Common.{◌≡◌, ℕ, ◌+◌, ◌-◌, ◌<◌, ◌≤◌, true, false, cond, List, ◌∷◌, ◌++◌, length, Some, None, refl, sym, ◌∙◌, ap, subst, inl, inr, arith}
-use Rattle.std.specs.Prelude.{Option, IsSome, nat_lt, not, option_map, unwrap_or}
-use Rattle.std.specs.List.{slice_get}
-use Rattle.std.proofs.lemmas.Bool.{cases_lt}
-use Rattle.std.proofs.lemmas.Bool.Decides.{nat_tests}
-use Rattle.std.proofs.lemmas.Option.{slice_get_within}
-use Rattle.cap_model.specs.Sight.{NodeSight}
-use Rattle.cap_model.specs.Admission.{NodeProposal}
-use Rattle.cap_model.specs.Candidates.{choice_on}
-use Rattle.cap_model.specs.declared.proposal.ProposalKind.{ProposalKind}
-use Rattle.cap_copy.specs.AskEntry.{AskEntry}
-use Rattle.cap_copy.specs.Snapshot.{IsAskEntry, IsSkip, IsSnapshot, Seen, asks_served, sight_in}
-use Rattle.cap_propose.specs.Proposing.{ArePassed, IsAdmittedAs, IsChosenAt, IsClosed, IsOpen, IsPassed, IsProposed, IsSeenNode, TakesAt, kind_by_room, node_after, proposal_by_room, proposal_of, ring_index, takes}
+use Rattle.cap_propose.proofs.Prelude.{◌≡◌, ℕ, ◌+◌, ◌-◌, ◌<◌, ◌≤◌, true, false, cond, List, ◌∷◌, ◌++◌, length, Some, None, refl, sym, ◌∙◌, ap, subst, inl, inr, arith, Option, IsSome, nat_lt, not, option_map, unwrap_or, slice_get, cases_lt, nat_tests, slice_get_within, NodeSight, NodeProposal, choice_on, ProposalKind, AskEntry, IsAskEntry, IsSkip, IsSnapshot, Seen, asks_served, sight_in, ArePassed, IsAdmittedAs, IsChosenAt, IsClosed, IsOpen, IsPassed, IsProposed, IsSeenNode, TakesAt, kind_by_room, node_after, proposal_by_room, proposal_of, ring_index, takes}
 use Rattle.cap_propose.proofs.Admitting.{holds_none, not_taken, room_there}
 use Rattle.cap_propose.proofs.Choosing.{AreRefused, entry_is, first_chosen, node_is, none_chosen}
 

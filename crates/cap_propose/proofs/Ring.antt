@@ -1,17 +1,5 @@
 -- The nodes as a ring.
-use Rattle.std.proofs.Common.{◌≡◌, ℕ, suc, ◌+◌, ◌-◌, ◌<◌, ◌≤◌, true, false, cond, List, ◌∷◌, ◌++◌, length, get_or, take, drop, Some, None, refl, sym, ◌∙◌, ap, inl, inr, arith, length-append, length-drop, drop-cons}
-use Rattle.std.specs.Prelude.{◌%◌, nat_lt}
-use Rattle.std.specs.List.{slice_get}
-use Rattle.std.specs.Option.{option_or}
-use Rattle.std.proofs.lemmas.Bool.{cases_lt}
-use Rattle.std.proofs.lemmas.Bool.Decides.{nat_tests}
-use Rattle.std.proofs.lemmas.List.{drop_all, get_or-append_right, get_or-drop, get_or-take, get_or_append_left, length-take}
-use Rattle.std.proofs.lemmas.Option.{get_or_from_slice_get}
-use Rattle.cap_model.specs.Sight.{Sight, NodeSight}
-use Rattle.cap_model.specs.Admission.{NodeProposal}
-use Rattle.cap_model.specs.Choice.{ring_from}
-use Rattle.cap_model.specs.Candidates.{choice_from, choice_on, first_choice}
-use Rattle.cap_propose.specs.Proposing.{ring_index}
+use Rattle.cap_propose.proofs.Prelude.{◌≡◌, ℕ, suc, ◌+◌, ◌-◌, ◌<◌, ◌≤◌, true, false, cond, List, ◌∷◌, ◌++◌, length, get_or, take, drop, Some, None, refl, sym, ◌∙◌, ap, inl, inr, arith, length-append, length-drop, drop-cons, ◌%◌, nat_lt, slice_get, option_or, cases_lt, nat_tests, drop_all, get_or-append_right, get_or-drop, get_or-take, get_or_append_left, length-take, get_or_from_slice_get, Sight, NodeSight, NodeProposal, ring_from, choice_from, choice_on, first_choice, ring_index}
 
 module _ (nodes : List NodeSight) (f : ℕ) where
   abbrev ring : List NodeSight

@@ -1,15 +1,5 @@
 -- The choice on a node, and from a starting node, is one alone.
-use Rattle.std.proofs.Common.{◌≡◌, ℕ, false, List, [], ◌∷◌, refl, sym, ◌∙◌, ap, inl, inr}
-use Rattle.std.specs.Prelude.{Option, Some, None, IsSome}
-use Rattle.std.specs.Ordering.{is_gt, ordering_reverse}
-use Rattle.std.specs.declared.cmp.Ordering.{Ordering}
-use Rattle.std.specs.declared.cmp.Ordering.TheVariants.{Less, Equal, Greater}
-use Rattle.cap_model.specs.Sight.{Sight, NodeSight}
-use Rattle.cap_model.specs.Admission.{NodeProposal}
-use Rattle.cap_model.specs.Choice.{rank_cmp, rank_of, ring_from, IsNodeChoice, IsFirstChoice}
-use Rattle.cap_model.proofs.choice.Orders.{rank_cmp_total}
-use Rattle.cap_laws.proofs.choice.Ranks.{one_of_each_rank}
-use Rattle.cap_propose.specs.Proposing.{NodeChoiceIsUnique, ChoiceFromIsUnique}
+use Rattle.cap_propose.proofs.Prelude.{◌≡◌, ℕ, false, List, [], ◌∷◌, refl, sym, ◌∙◌, ap, inl, inr, Option, Some, None, IsSome, is_gt, ordering_reverse, Ordering, Less, Equal, Greater, Sight, NodeSight, NodeProposal, rank_cmp, rank_of, ring_from, IsNodeChoice, IsFirstChoice, rank_cmp_total, one_of_each_rank, NodeChoiceIsUnique, ChoiceFromIsUnique}
 
 -- neither after the other
 level : (a b : Ordering) → a ≡ ordering_reverse b → is_gt a ≡ false → is_gt b ≡ false → a ≡ Equal

@@ -1,18 +1,5 @@
 -- The nearest node that takes an ask, as the applications are walked over.
-use Rattle.std.proofs.Common.{◌≡◌, ℕ, ◌+◌, ◌-◌, ◌<◌, ◌≤◌, List, [], ◌∷◌, ◌++◌, length, get_or, take, drop, Some, None, refl, sym, ◌∙◌, ap, subst, inl, inr, arith, append_assoc, length-append, length-drop}
-use Rattle.std.specs.Prelude.{Option}
-use Rattle.std.specs.List.{slice_get}
-use Rattle.std.specs.Option.{option_map_or}
-use Rattle.std.proofs.lemmas.Option.{get_or_from_slice_get, slice_get_past, slice_get_within}
-use Rattle.std.proofs.lemmas.List.{append-nil, get_or-drop, take_more}
-use Rattle.std.proofs.Math.Seq.{take-add}
-use Rattle.std.proofs.lemmas.Grind.{flat_map-append}
-use Rattle.cap_base.proofs.lists.Members.{IsIn, each_of, in_either, in_right}
-use Rattle.cap_copy.specs.AskEntry.{AskEntry}
-use Rattle.cap_copy.specs.declared.ranges.AskRange.{AskRange}
-use Rattle.cap_copy.specs.Snapshot.{IsNextAfter, IsSkip, IsSnapshot, IsUpTo, Seen, asks_between, asks_nth, asks_served}
-use Rattle.cap_propose.specs.declared.choice.Taker.{Taker}
-use Rattle.cap_propose.specs.Proposing.{ArePassed, IsNearer, IsNearest, IsOpen, IsPassed, TakesAt}
+use Rattle.cap_propose.proofs.Prelude.{◌≡◌, ℕ, ◌+◌, ◌-◌, ◌<◌, ◌≤◌, List, [], ◌∷◌, ◌++◌, length, get_or, take, drop, Some, None, refl, sym, ◌∙◌, ap, subst, inl, inr, arith, append_assoc, length-append, length-drop, Option, slice_get, option_map_or, get_or_from_slice_get, slice_get_past, slice_get_within, append-nil, get_or-drop, take_more, take-add, flat_map-append, IsIn, each_of, in_either, in_right, AskEntry, AskRange, IsNextAfter, IsSkip, IsSnapshot, IsUpTo, Seen, asks_between, asks_nth, asks_served, Taker, ArePassed, IsNearer, IsNearest, IsOpen, IsPassed, TakesAt}
 use Rattle.cap_propose.proofs.Passing.{at_most, chosen_there, fewer, held_more, ring_begins}
 
 module _ (K : ℕ) (seen : Seen) (first : ℕ) where

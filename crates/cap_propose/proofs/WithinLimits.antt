@@ -1,10 +1,5 @@
 -- The limits of an application, as a snapshot keeps them and as its sight shows them.
-use Rattle.std.proofs.Common.{◌≡◌, ℕ, Bool, List, [], ◌∷◌, map, refl, sym, ◌∙◌, ap, arith}
-use Rattle.std.specs.Prelude.{◌&&◌}
-use Rattle.std.specs.List.{list_all}
-use Rattle.std.proofs.lemmas.List.{ext_get_or}
-use Rattle.cap_vector.specs.Vector.{amounts_exchanged, less, plus, zeros}
-use Rattle.cap_vector.proofs.AmountLemmas.{amount-less, amount-zeros, length-less}
+use Rattle.cap_propose.proofs.Prelude.{◌≡◌, ℕ, Bool, List, [], ◌∷◌, map, refl, sym, ◌∙◌, ap, arith, ◌&&◌, list_all, ext_get_or, amounts_exchanged, less, plus, zeros, amount-less, amount-zeros, length-less}
 
 -- to take 0 of each away is to take nothing away
 less_nothing : (n : ℕ) (v : List ℕ) → less v (zeros n) ≡ v

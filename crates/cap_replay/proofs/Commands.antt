@@ -1,20 +1,6 @@
 -- Which commands a line can be.
-use Rattle.std.proofs.Common.{◌≡◌, ℕ, Bool, true, false, cond, eqb, List, [], ◌∷◌, ◌++◌, refl, sym, ap, ◌∙◌, subst, arith, inl, inr, length, get_or, take, drop, take-append-drop, Option, None, Some}
-use Rattle.std.specs.Cmp.Lexicographic.{pointwise, same_text}
-use Rattle.std.specs.Prelude.{nat_eq, ◌||◌, IfSome, IfNone, IsSome}
-use Rattle.std.proofs.Math.Seq.{take-append_seam}
-use Rattle.std.proofs.lemmas.List.{append_cancel_left}
-use Rattle.std.specs.List.{list_all}
-use Rattle.std.proofs.lemmas.Bool.{and_parts, eq-eqb}
-use Rattle.std.proofs.lemmas.Bool.Decides.{nat_tests}
-use Rattle.cap_text.specs.Numbers.{is_digit}
-use Rattle.cap_text.specs.Pieces.{lacks, IsCut}
-use Rattle.cap_text.proofs.Cuts.{one_cut}
-use Rattle.cap_text.proofs.Digits.{number_digits}
-use Rattle.cap_replay.specs.declared.command.Command.{Command}
-use Rattle.cap_replay.specs.declared.command.Command.TheVariants.{Nothing, Conf, Open, Bytes, End, Copy, Propose, Commit}
+use Rattle.cap_replay.proofs.Prelude.{◌≡◌, ℕ, Bool, true, false, cond, eqb, List, [], ◌∷◌, ◌++◌, refl, sym, ap, ◌∙◌, subst, arith, inl, inr, length, get_or, take, drop, take-append-drop, Option, None, Some, pointwise, same_text, nat_eq, ◌||◌, IfSome, IfNone, IsSome, take-append_seam, append_cancel_left, list_all, and_parts, eq-eqb, nat_tests, is_digit, lacks, IsCut, one_cut, number_digits, Command, Nothing, Conf, Open, Bytes, End, Copy, Propose, Commit, IsNumber, IsCommand, IsPiece, IsOpeningLine, IsLaterLine, IsStep, MayOpen, IsStepOrComment, MayStep}
 use denote.Ref.{Bor}
-use Rattle.cap_replay.specs.Script.{IsNumber, IsCommand, IsPiece, IsOpeningLine, IsLaterLine, IsStep, MayOpen, IsStepOrComment, MayStep}
 
 -- digits have no blank
 digits_no_blank : (digits : List ℕ) → list_all is_digit digits ≡ true → lacks 32 digits ≡ true

@@ -1,4 +1,5 @@
 pub mod Commands
+mod Prelude
 pub mod Results
 pub mod Making
 pub mod Scripts

@@ -1,17 +1,5 @@
 -- Lines of a text that comes in pieces.
-use Rattle.std.proofs.Common.{◌≡◌, ℕ, ◌<◌, true, List, [], ◌∷◌, ◌++◌, length, Option, None, Some, refl, sym, ap, ◌∙◌, subst}
-use Rattle.std.specs.Str.Lines.{lines, strip_carriage_return}
-use Rattle.std.proofs.lemmas.List.{append_assoc, append-nil, nil_from_length}
-use Rattle.std.proofs.lemmas.List.Folds.{list_all-append}
-use Rattle.std.specs.Io.KnownBytes.{Consumes}
-use Rattle.cap_text.specs.Pieces.{lacks, IsCut}
-use Rattle.cap_text.proofs.Cuts.{first_line, last_line}
-use Rattle.cap_base.specs.declared.properties.fault.ConfigFault.{ConfigFault}
-use Rattle.cap_replay.specs.Script.{IsScript, HasBadLine}
-use Rattle.cap_replay.specs.declared.simulation.Simulation.{Simulation}
-use Rattle.cap_replay.specs.Settings.{settings_fault, AreReadBefore, HasSettingsFault}
-use Rattle.cap_replay.specs.World.{Begins, FailsToBegin}
-use Rattle.cap_replay.specs.Progress.{Reads, IsPlayed, IsPlayedOut, Stands, StopsAtStep, whole_line}
+use Rattle.cap_replay.proofs.Prelude.{◌≡◌, ℕ, ◌<◌, true, List, [], ◌∷◌, ◌++◌, length, Option, None, Some, refl, sym, ap, ◌∙◌, subst, lines, strip_carriage_return, append_assoc, append-nil, nil_from_length, list_all-append, Consumes, lacks, IsCut, first_line, last_line, ConfigFault, IsScript, HasBadLine, Simulation, settings_fault, AreReadBefore, HasSettingsFault, Begins, FailsToBegin, Reads, IsPlayed, IsPlayedOut, Stands, StopsAtStep, whole_line}
 use Rattle.cap_replay.proofs.Scripts.{at_start, played_at_end, sound_at_end, opens_at_end, fault_at_end}
 
 cut_more : (left raw after more : List ℕ) → IsCut 10 left raw after → IsCut 10 (left ++ more) raw (after ++ more)

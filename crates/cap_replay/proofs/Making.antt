@@ -1,28 +1,9 @@
 -- Steps that a world makes one after the other.
-use Rattle.std.proofs.Common.{◌≡◌, ℕ, List, [], ◌∷◌, ◌++◌, Ok, Err, Result, refl, sym, ap, subst, ◌∙◌, append-nil}
-use Rattle.std.specs.Prelude.{IfOk, OnOk}
+use Rattle.cap_replay.proofs.Prelude.{◌≡◌, ℕ, List, [], ◌∷◌, ◌++◌, Ok, Err, Result, refl, sym, ap, subst, ◌∙◌, IfOk, OnOk, append_cancel_left, All, All-head, All-tail, resources, Event, Flat, as_events, Connection, Feeds, Step, Did, WorldState, Known, Adds, StepOutcome, Tried, made_by, Makes, IsOpeningLine, Simulation, Stop, BringSteps, at_start, passed, brought, IsStepOf, Advances, Brings}
+use Rattle.std.proofs.Common.{append-nil}
 use denote.Ref.{Bor}
-use Rattle.std.proofs.lemmas.List.{append_cancel_left}
-use Rattle.std.specs.List.{All}
-use Rattle.std.proofs.lemmas.List.Elements.{All-head, All-tail}
-use Rattle.cap_base.specs.Limits.{resources}
-use Rattle.cap_model.specs.declared.event.Event.{Event}
-use Rattle.cap_model.specs.Flat.{Flat}
-use Rattle.cap_world.specs.Answers.{as_events}
-use Rattle.cap_world.specs.Connection.{Connection}
-use Rattle.cap_world.specs.Serving.{Feeds}
-use Rattle.cap_world.specs.declared.step.Step.{Step}
 use Rattle.cap_world.specs.declared.step.Step.TheVariants as steps
-use Rattle.cap_world.specs.declared.step.Did.{Did}
 use Rattle.cap_world.specs.declared.step.Did.TheVariants as dids
-use Rattle.cap_world.specs.World.{WorldState, Known, Adds}
-use Rattle.cap_world.specs.Steps.{StepOutcome}
-use Rattle.cap_world.specs.Working.{Tried, made_by}
-use Rattle.cap_world.specs.Making.{Makes}
-use Rattle.cap_replay.specs.Script.{IsOpeningLine}
-use Rattle.cap_replay.specs.declared.simulation.Simulation.{Simulation}
-use Rattle.cap_replay.specs.declared.stop.Stop.{Stop}
-use Rattle.cap_replay.specs.World.{BringSteps, at_start, passed, brought, IsStepOf, Advances, Brings}
 
 -- one more step
 pub makes_more : (made : List Step) (step : Step) (did : Did) (old mid new : WorldState) (before between after : List (Event resources)) → Makes made old mid before between → StepOutcome step (Ok did) mid new between after → Makes (made ++ step ∷ []) old new before after

@@ -1,11 +1,7 @@
 -- What a reader gave, piece by piece.
-use Rattle.std.proofs.Common.{◌≡◌, ℕ, ◌<◌, List, [], ◌++◌, Option, Some, None, refl, length, ap, sym, subst, ◌∙◌, append_assoc, append-nil}
-use Rattle.std.specs.Io.KnownBytes.{Consumes}
-use Rattle.cap_session.specs.declared.counted.Counted.{Counted}
-use Rattle.cap_session.specs.Counted.{state_of, inner_of}
-use Rattle.cap_replay.specs.Streams.{IsRead, HasEnded}
+use Rattle.cap_replay.proofs.Prelude.{◌≡◌, ℕ, ◌<◌, List, [], ◌++◌, Option, Some, None, refl, length, ap, sym, subst, ◌∙◌, Consumes, Counted, state_of, inner_of, IsRead, HasEnded, nil_from_length}
+use Rattle.std.proofs.Common.{append_assoc, append-nil}
 use Rattle.cap_replay.proofs.Lines.{consumes_more}
-use Rattle.std.proofs.lemmas.List.{nil_from_length}
 
 pub read_more : {T : Type 0} (remaining : T → Option (List ℕ)) (a b c : Counted T) (first next : List ℕ) → IsRead remaining a b first → IsRead remaining b c next → IsRead remaining a c (first ++ next)
 read_more remaining a b c first next x y = record {

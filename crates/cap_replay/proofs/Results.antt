@@ -1,11 +1,5 @@
 -- What holds of an answer where it is no error, and where it is one.
-use Rattle.std.proofs.Common.{◌≡◌, ◌⊎◌, inl, inr, ℕ, ◌<◌, arith, refl}
-use Rattle.std.specs.Prelude.{Result, Ok, Err, IsOk, OnOk, IfErr}
-use Rattle.cap_session.specs.Counted.{StreamState, CanCount}
-use Rattle.cap_base.specs.declared.properties.fault.ConfigFault.{ConfigFault}
-use Rattle.cap_replay.specs.declared.stop.Stop.{Stop}
-use Rattle.cap_replay.specs.declared.stop.Stop.TheVariants.{BadLine, Config, NoMemory, Input, Output}
-use Rattle.cap_replay.specs.Streams.{IsRefused, IsOfScript, MayWrite, CountsReads, GivesNoEnd, misses, input_failures, output_failures}
+use Rattle.cap_replay.proofs.Prelude.{◌≡◌, ◌⊎◌, inl, inr, ℕ, ◌<◌, arith, refl, Result, Ok, Err, IsOk, OnOk, IfErr, StreamState, CanCount, ConfigFault, Stop, BadLine, Config, NoMemory, Input, Output, IsRefused, IsOfScript, MayWrite, CountsReads, GivesNoEnd, misses, input_failures, output_failures}
 
 pub on_ok : {X E : Type 0} {P Q : Type 0} → (r : Result X E) → OnOk r P → (P → Q) → OnOk r Q
 on_ok (Ok x) p f = f p

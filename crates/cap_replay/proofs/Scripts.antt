@@ -1,24 +1,7 @@
 -- Scripts line by line.
-use Rattle.std.proofs.Common.{◌≡◌, ◌⊎◌, ℕ, Ok, List, [], ◌∷◌, ◌++◌, refl, sym, ap, ◌∙◌, subst, inl, inr, Option, None, Some}
-use Rattle.std.specs.List.{All, fold, filter_map}
-use Rattle.std.proofs.lemmas.List.{append_assoc, append-nil}
-use Rattle.std.proofs.lemmas.List.Elements.{All-nil, All-cons, All-head, All-tail, All-push, All-same, filter_map-append}
-use Rattle.std.proofs.lemmas.List.Sums.{fold-append}
-use Rattle.cap_base.specs.declared.properties.fault.ConfigFault.{ConfigFault}
-use Rattle.cap_base.specs.properties.First.{first_fault}
+use Rattle.cap_replay.proofs.Prelude.{◌≡◌, ◌⊎◌, ℕ, Ok, List, [], ◌∷◌, ◌++◌, refl, sym, ap, ◌∙◌, subst, inl, inr, Option, None, Some, All, fold, filter_map, append_assoc, append-nil, All-nil, All-cons, All-head, All-tail, All-push, All-same, filter_map-append, fold-append, ConfigFault, first_fault, Command, Nothing, Conf, Open, Bytes, End, Copy, Propose, Commit, IsCommand, IsOpeningLine, IsLaterLine, IsStep, IsScript, MayStep, IsStepOrComment, property_of, with_line, properties, settings_text, settings_fault, Step, Did, Known, start, StepOutcome, Simulation, IsStepFor, IsStepOf, IsOpened, HasPlayed, IsWorldOf, HasPlayedAll, Begins, FailsToBegin, MakesStep, Performs, Stands, StopsAtStep}
 use denote.Ref.{Bor}
-use Rattle.cap_replay.specs.declared.command.Command.{Command}
-use Rattle.cap_replay.specs.declared.command.Command.TheVariants.{Nothing, Conf, Open, Bytes, End, Copy, Propose, Commit}
-use Rattle.cap_replay.specs.Script.{IsCommand, IsOpeningLine, IsLaterLine, IsStep, IsScript, MayStep, IsStepOrComment}
-use Rattle.cap_replay.specs.Settings.{property_of, with_line, properties, settings_text, settings_fault}
-use Rattle.cap_world.specs.declared.step.Step.{Step}
 use Rattle.cap_world.specs.declared.step.Step.TheVariants as steps
-use Rattle.cap_world.specs.declared.step.Did.{Did}
-use Rattle.cap_world.specs.World.{Known, start}
-use Rattle.cap_world.specs.Steps.{StepOutcome}
-use Rattle.cap_replay.specs.declared.simulation.Simulation.{Simulation}
-use Rattle.cap_replay.specs.World.{IsStepFor, IsStepOf, IsOpened, HasPlayed, IsWorldOf, HasPlayedAll, Begins, FailsToBegin, MakesStep, Performs}
-use Rattle.cap_replay.specs.Progress.{Stands, StopsAtStep}
 use Rattle.cap_replay.proofs.Commands.{step_never_opens}
 use Rattle.cap_replay.proofs.Making.{bring_none, bring_no_more, bring_more, makes_more}
 

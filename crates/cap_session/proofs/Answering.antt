@@ -1,17 +1,6 @@
 -- What was answered answers what was fed, whatever comes next.
-use Rattle.std.proofs.Common.{◌≡◌, ℕ, List, [], ◌∷◌, ◌++◌, Option, Some, None, refl, ap, ap₂, sym, ◌∙◌, subst, append_assoc, append-nil, take, drop}
-use Rattle.std.proofs.lemmas.List.{take-append-drop}
-use Rattle.cap_base.specs.Limits.{resources}
-use Rattle.cap_model.specs.News.{Reply}
-use Rattle.cap_frames.specs.Stream.{frame_of, fault, IsStream}
-use Rattle.cap_grammar.specs.declared.head.Head.{Head}
-use Rattle.cap_grammar.specs.Spelling.{IsNoRequest, kind_of, reply_bytes, fault_reply}
-use Rattle.cap_session.specs.Answers.{Call, Answers, nothing, replied, refused}
-use Rattle.cap_session.specs.Counted.{sent_count}
-use Rattle.cap_session.specs.Session.{SessionState, OpenRequest, SpellsAnswer, all_answers, answer_bytes, with_answer, after_sent, ended_after, AnswersBy, HasAnswered}
-use Rattle.cap_session.specs.declared.session.SessionCause.{SessionCause}
+use Rattle.cap_session.proofs.Prelude.{◌≡◌, ℕ, List, [], ◌∷◌, ◌++◌, Option, Some, None, refl, ap, ap₂, sym, ◌∙◌, subst, append_assoc, append-nil, take, drop, take-append-drop, resources, Reply, frame_of, fault, IsStream, Head, IsNoRequest, kind_of, reply_bytes, fault_reply, Call, Answers, nothing, replied, refused, sent_count, SessionState, OpenRequest, SpellsAnswer, all_answers, answer_bytes, with_answer, after_sent, ended_after, AnswersBy, HasAnswered, SessionCause, Sent}
 use Rattle.cap_session.specs.declared.session.SessionCause.TheVariants as causes
-use Rattle.cap_session.specs.declared.counted.Sent.{Sent}
 use Rattle.cap_session.specs.declared.counted.Sent.TheVariants as sents
 
 pub answers_more : {ps qs : List (List ℕ)} {cs ds : List (Call resources)} {output more : List ℕ} → Answers ps cs output → Answers qs ds more → Answers (ps ++ qs) (cs ++ ds) (output ++ more)

@@ -1,7 +1,5 @@
 -- Bytes that were written out in parts.
-use Rattle.std.proofs.Common.{◌≡◌, ℕ, ◌+◌, List, [], ◌++◌, Option, Some, None, ap, sym, ◌∙◌, append_assoc, append-nil, take, drop}
-use Rattle.std.proofs.Math.Seq.{take-add}
-use Rattle.std.specs.Io.KnownBytes.{Appends}
+use Rattle.cap_session.proofs.Prelude.{◌≡◌, ℕ, ◌+◌, List, [], ◌++◌, Option, Some, None, ap, sym, ◌∙◌, append_assoc, append-nil, take, drop, take-add, Appends}
 
 pub appends_then : (u v w : Option (List ℕ)) (a b : List ℕ) → Appends u v a → Appends v w b → Appends u w (a ++ b)
 appends_then None v w a b x y = tt

@@ -1,10 +1,5 @@
 -- What was fed and answered since, whatever comes next.
-use Rattle.std.proofs.Common.{◌≡◌, ℕ, List, [], ◌∷◌, ◌++◌, Some, refl, ap, ap₂, sym, ◌∙◌, subst, append_assoc, append-nil}
-use Rattle.cap_base.specs.Limits.{resources}
-use Rattle.cap_model.specs.News.{Reply}
-use Rattle.cap_frames.specs.Stream.{frame_of}
-use Rattle.cap_session.specs.Answers.{Call, Answers, nothing}
-use Rattle.cap_session.specs.Session.{SessionState, OpenRequest, SpellsAnswer, Continues, all_answers, answer_bytes, with_answer}
+use Rattle.cap_session.proofs.Prelude.{◌≡◌, ℕ, List, [], ◌∷◌, ◌++◌, Some, refl, ap, ap₂, sym, ◌∙◌, subst, append_assoc, append-nil, resources, Reply, frame_of, Call, Answers, nothing, SessionState, OpenRequest, SpellsAnswer, Continues, all_answers, answer_bytes, with_answer}
 use Rattle.cap_session.proofs.Answering.{answers_more, one_replied}
 
 pub continues_none : (s : SessionState) → Continues s s [] [] []

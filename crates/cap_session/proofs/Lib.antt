@@ -1,4 +1,5 @@
 mod Logs
+mod Prelude
 mod ReadingAhead
 pub mod Answering
 mod SessionSteps

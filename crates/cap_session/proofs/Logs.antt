@@ -1,15 +1,5 @@
 -- What is kept in logs.
-use Rattle.std.proofs.Common.{◌≡◌, ℕ, List, [], ◌∷◌, ◌++◌, Some, Ok, Err, refl, sym, take}
-use Rattle.std.proofs.lemmas.List.{flat_map_more}
-use Rattle.bytes.specs.Filled.{Filled}
-use Rattle.http_server.specs.declared.log.Log.{Log}
-use Rattle.cap_base.specs.Limits.{resources}
-use Rattle.cap_model.specs.declared.request.Request.{Request}
-use Rattle.cap_grammar.specs.declared.head.Head.{Head}
-use Rattle.cap_model.specs.News.{Reply}
-use Rattle.cap_session.specs.declared.asked.ReplyHead.{ReplyHead}
-use Rattle.cap_session.specs.Kept.{AnswerLog, calls_in, answered_in, calls_of, open_of, sent_in, IsHeadOf}
-use Rattle.cap_session.specs.Asked.{ReadResult, PayloadLog, payloads_in}
+use Rattle.cap_session.proofs.Prelude.{◌≡◌, ℕ, List, [], ◌∷◌, ◌++◌, Some, Ok, Err, refl, sym, take, flat_map_more, Filled, Log, resources, Request, Head, Reply, ReplyHead, AnswerLog, calls_in, answered_in, calls_of, open_of, sent_in, IsHeadOf, ReadResult, PayloadLog, payloads_in}
 
 pub answered_more : (log : AnswerLog) (l : Log Filled ReadResult) (r : Log (Reply resources) (Unit {0})) → answered_in (log ++ (l, r) ∷ []) ≡ answered_in log ++ payloads_in l.items
 answered_more log l r = sym (flat_map_more (λ (e : Log Filled ReadResult × Log (Reply resources) (Unit {0})). payloads_in e.0.items) [] log (l, r))

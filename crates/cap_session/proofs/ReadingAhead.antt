@@ -1,23 +1,6 @@
 -- What reading ahead keeps.
-use Rattle.std.proofs.Common.{◌≡◌, ℕ, ◌-◌, ◌≤◌, List, [], ◌∷◌, ◌++◌, Bool, true, false, Option, Some, None, Result, Ok, Err, is_err, IfOk, IsErrOf, OnOk, OnErr, ◌↔◌, arith, rules, refl, ap, ap₂, sym, ◌∙◌, subst, append_assoc, append-nil, length, length-append, take}
-use Rattle.std.proofs.lemmas.List.{map-append}
-use Rattle.bytes.specs.Filled.{Filled}
-use Rattle.cap_base.specs.Limits.{resources}
-use Rattle.cap_model.specs.declared.request.Request.{Request}
-use Rattle.cap_frames.specs.Stream.{rest, fault, IsStream}
-use Rattle.cap_frames.specs.declared.fault.FrameFault.{FrameFault}
-use Rattle.cap_frames.specs.declared.fault.FrameFault.TheVariants.{BadLength}
+use Rattle.cap_session.proofs.Prelude.{◌≡◌, ℕ, ◌-◌, ◌≤◌, List, [], ◌∷◌, ◌++◌, Bool, true, false, Option, Some, None, Result, Ok, Err, is_err, IfOk, IsErrOf, OnOk, OnErr, ◌↔◌, arith, rules, refl, ap, ap₂, sym, ◌∙◌, subst, append_assoc, append-nil, length, length-append, take, map-append, Filled, resources, Request, rest, fault, IsStream, FrameFault, BadLength, History, IsReading, IsAtRest, IsAtFault, after_feed, after_gift, Bad, NoMemory, IsRequest, IsNoRequest, ReadResult, PayloadLog, IsReadFrom, IsOpened, HasParts, OpenRequest, asked_payloads, asked_requests, refused_payloads, payloads_ahead, history_of, HasGiven, ReadsAhead, Ahead, ReplyHead, AHEAD_MAX}
 use Rattle.cap_frames.specs.declared.fault.FrameFault.TheVariants as frame_faults
-use Rattle.cap_frames.specs.History.{History, IsReading, IsAtRest, IsAtFault, after_feed, after_gift}
-use Rattle.cap_grammar.specs.declared.fault.MessageFault.TheVariants.{Bad, NoMemory}
-use Rattle.cap_grammar.specs.Spelling.{IsRequest, IsNoRequest}
-use Rattle.cap_session.specs.Asked.{ReadResult, PayloadLog, IsReadFrom, IsOpened, HasParts}
-use Rattle.cap_session.specs.Session.{OpenRequest}
-use Rattle.cap_session.specs.Ahead.{asked_payloads, asked_requests, refused_payloads, payloads_ahead, history_of, HasGiven}
-use Rattle.cap_session.specs.Payloads.{ReadsAhead}
-use Rattle.cap_session.specs.declared.payloads.Ahead.{Ahead}
-use Rattle.cap_session.specs.declared.asked.ReplyHead.{ReplyHead}
-use Rattle.cap_session.specs.declared.payloads.TheConstants.{AHEAD_MAX}
 
 take_first : (xs ys : List (List ℕ)) → take (length xs) (xs ++ ys) ≡ xs
 take_first [] ys = refl

@@ -1,28 +1,9 @@
 -- What each step of a session keeps.
-use Rattle.std.proofs.Common.{◌≡◌, ℕ, true, false, is_some, List, [], ◌∷◌, ◌++◌, Option, Some, None, Err, refl, ap, ap₂, sym, ◌∙◌, subst, append_assoc, append-nil, take, drop}
-use Rattle.bytes.specs.Filled.{Filled}
-use Rattle.http_server.specs.declared.log.Log.{Log}
-use Rattle.cap_base.specs.Limits.{resources}
-use Rattle.cap_model.specs.declared.request.Request.{Request}
-use Rattle.cap_model.specs.News.{Reply}
-use Rattle.cap_frames.specs.Stream.{frame_of, rest, fault, IsStream}
-use Rattle.cap_frames.specs.History.{History, after_gift, IsReading, IsAtFault}
-use Rattle.cap_grammar.specs.declared.fault.MessageFault.{MessageFault}
-use Rattle.cap_grammar.specs.Spelling.{IsNoRequest, kind_of, fault_reply}
-use Rattle.cap_session.specs.Answers.{nothing}
-use Rattle.cap_session.specs.Counted.{sent_count}
-use Rattle.cap_session.specs.declared.counted.Sent.{Sent}
+use Rattle.cap_session.proofs.Prelude.{◌≡◌, ℕ, true, false, is_some, List, [], ◌∷◌, ◌++◌, Option, Some, None, Err, refl, ap, ap₂, sym, ◌∙◌, subst, append_assoc, append-nil, take, drop, Filled, Log, resources, Request, Reply, frame_of, rest, fault, IsStream, History, after_gift, IsReading, IsAtFault, MessageFault, IsNoRequest, kind_of, fault_reply, nothing, sent_count, Sent, ended_after, after_sent, HasAnswered, OpenRequest, open_payload, SpellsAnswer, FollowsStream, IsSession, EndsNow, NextGives, answer_bytes, with_answer, after_answer, AnswersBy, AnswerLog, calls_in, answered_in, calls_of, open_of, sent_in, state_inside, SpellsRequest, IsHeadOf, IsKept, HasRoom, AnswersBad, AnswersAllBad, Finds, EndsWith, ReadResult, PayloadLog, payloads_in, ReplyHead, FoundPayload, SessionCause, Inside}
 use Rattle.cap_session.specs.declared.counted.Sent.TheVariants as sents
-use Rattle.cap_session.specs.Session.{ended_after, after_sent, HasAnswered, OpenRequest, open_payload, SpellsAnswer, FollowsStream, IsSession, EndsNow, NextGives, answer_bytes, with_answer, after_answer, AnswersBy}
-use Rattle.cap_session.specs.Kept.{AnswerLog, calls_in, answered_in, calls_of, open_of, sent_in, state_inside, SpellsRequest, IsHeadOf, IsKept, HasRoom, AnswersBad, AnswersAllBad, Finds, EndsWith}
-use Rattle.cap_session.specs.Asked.{ReadResult, PayloadLog, payloads_in}
-use Rattle.cap_session.specs.declared.asked.ReplyHead.{ReplyHead}
-use Rattle.cap_session.specs.declared.find.FoundPayload.{FoundPayload}
 use Rattle.cap_session.specs.declared.find.FoundPayload.TheVariants as found
-use Rattle.cap_session.specs.declared.session.SessionCause.{SessionCause}
 use Rattle.cap_session.specs.declared.session.SessionCause.TheVariants as causes
 use Rattle.cap_session.specs.declared.session.Next.TheVariants as nexts
-use Rattle.cap_session.specs.declared.session.Session.TheInside.{Inside}
 use Rattle.cap_session.proofs.Answering.{answers_more, one_refused, answers_open, answered_open, answers_refused, answered_fault, answered_answer, answered_starved, answered_sent}
 use Rattle.cap_session.proofs.Logs.{answered_more, calls_more, opened_is}
 

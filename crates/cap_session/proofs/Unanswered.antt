@@ -1,11 +1,6 @@
 -- How many bytes are in no payload that was answered.
-use Rattle.std.proofs.Common.{◌≡◌, ℕ, ◌+◌, ◌<◌, ◌≤◌, List, [], ◌∷◌, ◌++◌, length, length-append, ap, ◌∙◌, arith, subst, inl, inr}
-use Rattle.std.proofs.lemmas.List.Concat.{flat_map-append}
-use Rattle.cap_frames.specs.Stream.{frame_of, frames_of, tail_bytes}
-use Rattle.cap_session.specs.Session.{SessionState, FollowsStream, EndsNow, NextGives, bytes_unanswered, open_payload}
-use Rattle.cap_session.specs.declared.session.SessionCause.{SessionCause}
+use Rattle.cap_session.proofs.Prelude.{◌≡◌, ℕ, ◌+◌, ◌<◌, ◌≤◌, List, [], ◌∷◌, ◌++◌, length, length-append, ap, ◌∙◌, arith, subst, inl, inr, flat_map-append, frame_of, frames_of, tail_bytes, SessionState, FollowsStream, EndsNow, NextGives, bytes_unanswered, open_payload, SessionCause, Next}
 use Rattle.cap_session.specs.declared.session.SessionCause.TheVariants as causes
-use Rattle.cap_session.specs.declared.session.Next.{Next}
 use Rattle.cap_session.specs.declared.session.Next.TheVariants as nexts
 
 frames_more : (answered payloads : List (List ℕ)) → length (frames_of (answered ++ payloads)) ≡ length (frames_of answered) + length (frames_of payloads)

@@ -2,8 +2,7 @@
 use denote.RattleType.{RattleType}
 use denote.Param.Send.{IsSend, IsSync, Frees, sendable, view_send, recorded_send, recorded_sync, struct_send, struct_sync}
 use denote.Struct.Declared.{shape}
-use Rattle.std.specs.declared.alloc.Allocator.{Ghosts}
-use Rattle.std.proofs.Crossing.{crosses}
+use Rattle.cap_shared.proofs.Prelude.{Ghosts, crosses}
 use Rattle.std.proofs.boxed.Box.TheSendSync as boxed
 use Rattle.std.proofs.sync.Mutex.TheSendSync as mutex
 use Rattle.std.proofs.vec.Vec.TheSendSync as vec

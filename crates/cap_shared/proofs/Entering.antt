@@ -1,26 +1,8 @@
 -- What a call and a proposal come to, as events and receipts.
-use Rattle.std.proofs.Common.{◌≡◌, ℕ, [], ◌∷◌, ◌++◌, refl, ap, sym, ◌∙◌, subst}
-use Rattle.atomic_table.specs.Table.{Me}
-use Rattle.cap_base.specs.Limits.{resources}
-use Rattle.cap_model.specs.Flat.{Flat}
-use Rattle.cap_model.specs.News.{Reply}
-use Rattle.cap_model.specs.Events.{Step}
-use Rattle.cap_model.specs.Replies.{Replies}
-use Rattle.cap_model.specs.declared.event.Event.{Event}
+use Rattle.cap_shared.proofs.Prelude.{◌≡◌, ℕ, [], ◌∷◌, ◌++◌, refl, ap, sym, ◌∙◌, subst, Me, resources, Flat, Reply, Step, Replies, Event, Request, Mark, Moment, Sitting, View, Made, HasMore, receipt_for, IsBy, event_of_made, Pass, sitter, sitting, sitting_of}
 use Rattle.cap_model.specs.declared.event.Event.TheVariants as event
-use Rattle.cap_model.specs.declared.request.Request.{Request}
 use Rattle.cap_shared.specs.declared.entry.Receipt.TheVariants as receipt
-use Rattle.cap_shared.specs.declared.history.Mark.{Mark}
-use Rattle.cap_shared.specs.declared.history.Moment.{Moment}
-use Rattle.cap_shared.specs.declared.history.Sitting.{Sitting}
-use Rattle.cap_shared.specs.declared.history.View.{View}
-use Rattle.cap_shared.specs.declared.making.Made.{Made}
 use Rattle.cap_shared.specs.declared.making.Made.TheVariants as made
-use Rattle.cap_shared.specs.Calls.{HasMore}
-use Rattle.cap_shared.specs.Journal.{receipt_for, IsBy}
-use Rattle.cap_shared.specs.Making.{event_of_made}
-use Rattle.cap_shared.specs.Passes.{Pass}
-use Rattle.cap_shared.specs.WordRule.{sitter, sitting, sitting_of}
 
 pub call_step : (old new : Flat resources) (by : ℕ) (request q : Request resources) (reply r : Reply resources) (e : Event resources) → Replies old request reply new → q ≡ request → r ≡ reply → e ≡ event.Call by q r → Step old e new
 call_step old new by request q reply r e is same_q same_r e_is = subst (λ (x : Event resources). Step old x new) (sym (e_is ∙ ap (λ (x : Request resources). event.Call by x r) same_q ∙ ap (λ (x : Reply resources). event.Call by request x) same_r)) is

@@ -3,3 +3,4 @@ pub mod Entering
 pub mod Lists
 pub mod Moves
 pub mod Pasts
+mod Prelude

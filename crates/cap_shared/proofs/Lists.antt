@@ -1,19 +1,8 @@
 -- Counts of seats, and what a longer journal keeps.
-use Rattle.std.proofs.Common.{◌≡◌, ◌≢◌, ℕ, zero, suc, ◌+◌, ◌-◌, ◌<◌, ◌≤◌, ◌==◌, Bool, true, false, List, [], ◌∷◌, ◌++◌, length, set, refl, ap, sym, ◌∙◌, arith, append_assoc, zero-add}
-use Rattle.std.specs.Prelude.{if◌then◌else◌}
-use Rattle.std.proofs.lemmas.Bool.Decides.{nat_tests}
+use Rattle.cap_shared.proofs.Prelude.{◌≡◌, ◌≢◌, ℕ, zero, suc, ◌+◌, ◌-◌, ◌<◌, ◌≤◌, ◌==◌, Bool, true, false, List, [], ◌∷◌, ◌++◌, length, set, refl, ap, sym, ◌∙◌, arith, append_assoc, zero-add, if◌then◌else◌, nat_tests, Entry, Receipt, NotedAnswer, Moment, Entered, Noted, Sitting, View, receipt_for, seat_entries, receipts_in, Addition, Enters, Notes, Nothing, sitting, fresh, rest_of, head_of, NotesBegin, Fits, AllFit, times, total, log_after, past_after, sits_after}
 use mathlib.Core.Option.{some, some-ne-none, some-injective}
 use mathlib.Core.List.{IsPrefix}
 use lib.ListN.{get_elem?}
-use Rattle.cap_shared.specs.declared.entry.Entry.{Entry}
-use Rattle.cap_shared.specs.declared.entry.Receipt.{Receipt}
-use Rattle.cap_shared.specs.declared.history.NotedAnswer.{NotedAnswer}
-use Rattle.cap_shared.specs.declared.history.Moment.{Moment}
-use Rattle.cap_shared.specs.declared.history.Moment.TheVariants.{Entered, Noted}
-use Rattle.cap_shared.specs.declared.history.Sitting.{Sitting}
-use Rattle.cap_shared.specs.declared.history.View.{View}
-use Rattle.cap_shared.specs.Journal.{receipt_for, seat_entries, receipts_in}
-use Rattle.cap_shared.specs.WordRule.{Addition, Enters, Notes, Nothing, sitting, fresh, rest_of, head_of, NotesBegin, Fits, AllFit, times, total, log_after, past_after, sits_after}
 
 abbrev pub one : ℕ → ℕ → ℕ
 one a x = if a == x then 1 else 0

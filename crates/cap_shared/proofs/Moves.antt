@@ -1,14 +1,8 @@
 -- Each step keeps the rule.
-use Rattle.std.proofs.Common.{◌≡◌, ◌≢◌, ℕ, zero, suc, ◌+◌, ◌≤◌, true, false, List, [], ◌∷◌, ◌++◌, set, refl, ap, sym, ◌∙◌, subst, ⊎_elim, arith}
+use Rattle.cap_shared.proofs.Prelude.{◌≡◌, ◌≢◌, ℕ, zero, suc, ◌+◌, ◌≤◌, true, false, List, [], ◌∷◌, ◌++◌, set, refl, ap, sym, ◌∙◌, subst, ⊎_elim, arith, step, Allows, Splits, Joins, opening, at_set, at_snoc, Entry, Mark, Sitting, View, Addition, Enters, Notes, Nothing, addition_of, nobody, first_view, without_first, only_first, with_guest, IsOf, AllFit, times, total, Knows, Holds, log_after, sits_after, view_with, IsAdded, IsCompared}
 use mathlib.Core.Option.{some, none, some-ne-none, some-injective}
 use lib.ListN.{get_elem?}
-use Rattle.atomic_table.specs.Table.{step, keeps as no_act, Allows, Splits, Joins, opening}
-use Rattle.atomic_table.proofs.Lists.{at_set, at_snoc}
-use Rattle.cap_shared.specs.declared.entry.Entry.{Entry}
-use Rattle.cap_shared.specs.declared.history.Mark.{Mark}
-use Rattle.cap_shared.specs.declared.history.Sitting.{Sitting}
-use Rattle.cap_shared.specs.declared.history.View.{View}
-use Rattle.cap_shared.specs.WordRule.{Addition, Enters, Notes, Nothing, addition_of, nobody, first_view, without_first, only_first, with_guest, IsOf, AllFit, times, total, Knows, Holds, log_after, sits_after, view_with, IsAdded, IsCompared}
+use Rattle.atomic_table.specs.Table.{keeps as no_act}
 use Rattle.cap_shared.proofs.Lists.{one, one_same, times-append, times-parts, total-set, total-push, total_at, total_two, fresh_fits, fresh_once, all_fit_after, times_after, absent_from, all_fit_others, all_fit-append, all_fit_rest, all_fit_head}
 
 off : false ≡ true → ⊥

@@ -1,28 +1,7 @@
 -- What a seat and the desk keep as the journal grows.
-use Rattle.std.proofs.Common.{◌≡◌, ℕ, suc, ◌+◌, ◌<◌, ◌≤◌, ◌==◌, Bool, true, false, List, [], ◌∷◌, ◌++◌, length, refl, ap, sym, ◌∙◌, subst, arith, length-append}
-use Rattle.std.specs.Prelude.{if◌then◌else◌}
+use Rattle.cap_shared.proofs.Prelude.{◌≡◌, ℕ, suc, ◌+◌, ◌<◌, ◌≤◌, ◌==◌, Bool, true, false, List, [], ◌∷◌, ◌++◌, length, refl, ap, sym, ◌∙◌, subst, arith, length-append, if◌then◌else◌, Me, TableId, resources, Flat, after_event, Step, Event, step_is_determined, Entry, Receipt, NotedAnswer, Moment, Entered, Noted, Mark, Sitting, View, Replays, state_after, receipt_for, seat_entries, receipts_in, position_of, start_of, end_of, end_after, Rises, NoteHolds, NotesHold, IsBy, TagsBelow, AllHonest, keeper, sitter, sitting, sitting_of, NotesBegin, Fits, IsSeat, IsDesk, Pass, IsNoted, IsEntered, JournalsLeadToStates}
 use mathlib.Core.List.{IsPrefix}
-use Rattle.atomic_table.specs.Table.{Me}
-use Rattle.atomic_table.specs.Seated.{TableId}
-use Rattle.cap_base.specs.Limits.{resources}
-use Rattle.cap_model.specs.Flat.{Flat}
-use Rattle.cap_model.specs.Events.{after_event, Step}
-use Rattle.cap_model.specs.declared.event.Event.{Event}
 use Rattle.cap_model.specs.declared.event.Event.TheVariants as event
-use Rattle.cap_laws.proofs.numbers.Balance.{step_is_determined}
-use Rattle.cap_shared.specs.declared.entry.Entry.{Entry}
-use Rattle.cap_shared.specs.declared.entry.Receipt.{Receipt}
-use Rattle.cap_shared.specs.declared.history.NotedAnswer.{NotedAnswer}
-use Rattle.cap_shared.specs.declared.history.Moment.{Moment}
-use Rattle.cap_shared.specs.declared.history.Moment.TheVariants.{Entered, Noted}
-use Rattle.cap_shared.specs.declared.history.Mark.{Mark}
-use Rattle.cap_shared.specs.declared.history.Sitting.{Sitting}
-use Rattle.cap_shared.specs.declared.history.View.{View}
-use Rattle.cap_shared.specs.Journal.{Replays, state_after, receipt_for, seat_entries, receipts_in, position_of, start_of, end_of, end_after, Rises, NoteHolds, NotesHold, IsBy, TagsBelow, AllHonest}
-use Rattle.cap_shared.specs.WordRule.{keeper, sitter, sitting, sitting_of, NotesBegin, Fits}
-use Rattle.cap_shared.specs.Parts.{IsSeat, IsDesk}
-use Rattle.cap_shared.specs.Passes.{Pass, IsNoted, IsEntered}
-use Rattle.cap_shared.specs.Laws.{JournalsLeadToStates}
 use Rattle.cap_shared.proofs.Lists.{receipts_in-told, receipts_in-noted}
 
 pub Replays-push : (s m t : Flat resources) (es : List Entry) (e : Entry) → Replays s es m → Step m e.event t → Replays s (es ++ e ∷ []) t

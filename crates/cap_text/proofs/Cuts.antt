@@ -1,15 +1,5 @@
 -- Cutting at a separator.
-use Rattle.std.proofs.Common.{◌≡◌, ℕ, zero, suc, ◌+◌, ◌-◌, ◌<◌, ◌≤◌, List, [], ◌∷◌, ◌++◌, length, get_or, take, drop, length-drop, length-append, take-append-drop, Bool, true, false, cond, eqb, Some, None, refl, sym, ap, ◌∙◌, arith, eq-eqb}
-use Rattle.std.specs.Prelude.{not}
-use Rattle.std.specs.List.{position, position_or_len, slice_split, All}
-use Rattle.std.specs.Str.Lines.{lines, strip_carriage_return, lines_of_parts}
-use Rattle.std.proofs.lemmas.List.{take_all, drop_more, append_cancel_left}
-use Rattle.std.proofs.lemmas.Bool.{eqb-true, not-true}
-use Rattle.std.proofs.lemmas.Bool.Decides.{nat_tests}
-use Rattle.std.proofs.lemmas.List.Quantifiers.{position-Some}
-use Rattle.std.proofs.lemmas.List.Sums.{AllPass-from_list_all, fails_before_first}
-use Rattle.std.proofs.lemmas.List.Splits.{slice_split_at, slice_split_none, length-slice_split}
-use Rattle.cap_text.specs.Pieces.{lacks, IsCut}
+use Rattle.cap_text.proofs.Prelude.{◌≡◌, ℕ, zero, suc, ◌+◌, ◌-◌, ◌<◌, ◌≤◌, List, [], ◌∷◌, ◌++◌, length, get_or, take, drop, length-drop, length-append, take-append-drop, Bool, true, false, cond, eqb, Some, None, refl, sym, ap, ◌∙◌, arith, eq-eqb, not, position, position_or_len, slice_split, All, lines, strip_carriage_return, lines_of_parts, take_all, drop_more, append_cancel_left, eqb-true, not-true, nat_tests, position-Some, AllPass-from_list_all, fails_before_first, slice_split_at, slice_split_none, length-slice_split, lacks, IsCut}
 
 -- what a slice from a place on is
 pub rest_all : (bytes : List ℕ) (n : ℕ) → take (length bytes - n) (drop n bytes) ≡ drop n bytes

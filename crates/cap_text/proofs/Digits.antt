@@ -1,11 +1,5 @@
 -- Numbers that digits spell.
-use Rattle.std.proofs.Common.{◌≡◌, ℕ, ◌^◌, ◌<◌, ◌≤◌, List, length, get_or, Bool, true, false, cond, Some, None, refl, arith, lit<}
-use Rattle.std.specs.List.{list_all}
-use Rattle.std.proofs.Math.Nat.{pow-le-pow_right}
-use Rattle.std.proofs.lemmas.List.Sums.{AllPass-from_list_all}
-use Rattle.std.proofs.lemmas.Bool.{and_parts}
-use Rattle.std.proofs.lemmas.Bool.Decides.{nat_tests}
-use Rattle.cap_text.specs.Numbers.{is_digit, is_number, decimal, number_of}
+use Rattle.cap_text.proofs.Prelude.{◌≡◌, ℕ, ◌^◌, ◌<◌, ◌≤◌, List, length, get_or, Bool, true, false, cond, Some, None, refl, arith, lit<, list_all, pow-le-pow_right, AllPass-from_list_all, and_parts, nat_tests, is_digit, is_number, decimal, number_of}
 
 -- a digit of a list of digits
 pub record IsDigit (b : ℕ) : Type 0 where

@@ -1,3 +1,4 @@
 pub mod Cuts
+mod Prelude
 pub mod Trims
 pub mod Digits

@@ -1,9 +1,6 @@
 -- Without the spaces at the ends.
-use Rattle.std.proofs.Common.{◌≡◌, ℕ, ◌-◌, ◌<◌, ◌≤◌, List, length, get_or, take, drop, true, false, sym, ap, ◌∙◌, arith}
-use Rattle.std.specs.List.{prefix_len, suffix_len}
-use Rattle.std.proofs.lemmas.List.Sums.{prefix_len_is, suffix_len_is}
+use Rattle.cap_text.proofs.Prelude.{◌≡◌, ℕ, ◌-◌, ◌<◌, ◌≤◌, List, length, get_or, take, drop, true, false, sym, ap, ◌∙◌, arith, prefix_len, suffix_len, prefix_len_is, suffix_len_is, is_space, from_first_word, to_last_word}
 use Rattle.cap_text.proofs.Cuts.{rest_all}
-use Rattle.cap_text.specs.Pieces.{is_space, from_first_word, to_last_word}
 
 pub front_trimmed : (bytes : List ℕ) (n : ℕ) → n ≤ length bytes → ((k : ℕ) → k < n → is_space (get_or bytes k 0) ≡ true) → (n < length bytes → is_space (get_or bytes n 0) ≡ false) →
     take (length bytes - n) (drop n bytes) ≡ from_first_word bytes

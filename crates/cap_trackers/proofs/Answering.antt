@@ -1,21 +1,6 @@
 -- Calls that are refused and calls that are granted.
-use Rattle.std.proofs.Common.{◌≡◌, ℕ, Bool, true, false, List, length, Bor, Option, Some, None, refl, sym, ◌∙◌, ap}
-use Rattle.std.specs.Prelude.{bytes_eq, find, is_some, IsSome}
-use Rattle.std.specs.Option.{option_copied}
-use Rattle.cap_base.specs.Settings.{QueueRow}
-use Rattle.cap_model.specs.declared.news.Cause.{Cause}
-use Rattle.cap_model.specs.declared.request.Request.{Request}
+use Rattle.cap_trackers.proofs.Prelude.{◌≡◌, ℕ, Bool, true, false, List, length, Bor, Option, Some, None, refl, sym, ◌∙◌, ap, bytes_eq, find, is_some, IsSome, option_copied, QueueRow, Cause, Request, Refusal, QueueReport, Flat, ClusterNode, NodeTable, queue_at, node_at, node_in, containers_on, after_ends, node_gone_refusal, without_node, after_set_queue_state, queue_report, queue_refusal, Row, IsAt, queues_of, path_at, is_found, refusal_of, granted_reply, granted_cluster, reply_to, after_request}
 use Rattle.cap_model.specs.declared.reply.ReplyWith.TheVariants as Reply
-use Rattle.cap_model.specs.declared.refusal.Refusal.{Refusal}
-use Rattle.cap_model.specs.declared.report.QueueReport.{QueueReport}
-use Rattle.cap_model.specs.Flat.{Flat, ClusterNode, NodeTable, queue_at, node_at, node_in, containers_on}
-use Rattle.cap_model.specs.Ending.{after_ends}
-use Rattle.cap_model.specs.NodeGone.{node_gone_refusal, without_node}
-use Rattle.cap_model.specs.QueueCalls.{after_set_queue_state, queue_report, queue_refusal}
-use Rattle.cap_tree.specs.Rows.{Row, IsAt, queues_of}
-use Rattle.cap_tree.specs.Spot.{path_at}
-use Rattle.cap_commit.proofs.RowsAt.{is_found}
-use Rattle.cap_model.specs.Replies.{refusal_of, granted_reply, granted_cluster, reply_to, after_request}
 
 module _ {K : ℕ} (cluster : Flat K) where
   pub granted_is : (request : Request K) → refusal_of cluster request ≡ None →

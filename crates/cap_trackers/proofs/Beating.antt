@@ -1,28 +1,6 @@
 -- A heartbeat that is not refused.
-use Rattle.std.proofs.Common.{◌≡◌, ℕ, ◌+◌, ◌-◌, Bool, true, false, List, [], ◌∷◌, length, map, Option, Some, None, refl, sym, ◌∙◌, ap, subst, arith}
-use Rattle.std.specs.Prelude.{cond, not, filter, find, count_by, ◌==◌, ◌&&◌, if◌then◌else◌, unwrap_or, option_and_then}
-use Rattle.std.proofs.lemmas.Bool.Decides.{nat_tests}
-use Rattle.std.proofs.lemmas.List.Sums.{length-filter}
-use Rattle.std.proofs.lemmas.List.Filters.{length-filter_both}
-use Rattle.cap_model.specs.declared.news.Cause.{Cause}
-use Rattle.cap_model.specs.declared.request.Request.{Request}
+use Rattle.cap_trackers.proofs.Prelude.{◌≡◌, ℕ, ◌+◌, ◌-◌, Bool, true, false, List, [], ◌∷◌, length, map, Option, Some, None, refl, sym, ◌∙◌, ap, subst, arith, cond, not, filter, find, count_by, ◌==◌, ◌&&◌, if◌then◌else◌, unwrap_or, option_and_then, nat_tests, length-filter, length-filter_both, Cause, Request, Refusal, Flat, ClusterNode, Container, NodeTable, node_at, with_node, node_in, containers_on, HeartbeatReply, IsRising, earliest, next_response, is_current, is_repeated, is_bad_id, is_among, after_ends, heartbeat_refusal, is_repeated_heartbeat, ended_by, beat_of, after_processed_heartbeat, after_heartbeat, no_beat, after_beat, HasDistinctNumbers, reply_to, after_request, IsIn, found, rising_kept, found_by_number, filter_same, filter_twice, filter_whole, map_same, among_itself, is_named, count_named, among_named, and_true, first_holds}
 use Rattle.cap_model.specs.declared.reply.ReplyWith.TheVariants as Reply
-use Rattle.cap_model.specs.declared.refusal.Refusal.{Refusal}
-use Rattle.cap_model.specs.Flat.{Flat, ClusterNode, Container, NodeTable, node_at, with_node, node_in, containers_on}
-use Rattle.cap_model.specs.declared.replies.HeartbeatReply.{HeartbeatReply}
-use Rattle.cap_base.specs.Members.{IsRising}
-use Rattle.cap_base.specs.Cascade.{earliest}
-use Rattle.cap_model.specs.ResponseIds.{next_response, is_current, is_repeated, is_bad_id}
-use Rattle.cap_model.specs.Ending.{is_among, after_ends}
-use Rattle.cap_model.specs.Heartbeat.{heartbeat_refusal, is_repeated_heartbeat, ended_by, beat_of, after_processed_heartbeat, after_heartbeat, no_beat, after_beat}
-use Rattle.cap_laws.specs.EngineLaws.{HasDistinctNumbers}
-use Rattle.cap_model.specs.Replies.{reply_to, after_request}
-use Rattle.cap_base.proofs.lists.Members.{IsIn, found}
-use Rattle.cap_model.proofs.lists.Numbered.{rising_kept, found_by_number}
-use Rattle.cap_base.proofs.lists.Filters.{filter_same, filter_twice, filter_whole, map_same}
-use Rattle.cap_laws.proofs.numbers.Balance.{among_itself}
-use Rattle.cap_laws.proofs.ending.NamedEnds.{is_named, count_named, among_named}
-use Rattle.cap_base.proofs.lists.Tests.{and_true, first_holds}
 use Rattle.cap_trackers.proofs.Answering.{granted_is, refused_is}
 
 turn : (a b : Bool) → cond (not a) b false ≡ cond b (not a) false

@@ -1,4 +1,5 @@
 pub mod Answering
 pub mod Beating
+mod Prelude
 pub mod Refusing
 pub mod SettingLines

@@ -1,14 +1,5 @@
 -- The first test that holds is the refusal.
-use Rattle.std.proofs.Common.{◌≡◌, ℕ, Bool, List, [], ◌∷◌, length, Option}
-use Rattle.std.specs.Prelude.{not, nat_le, bytes_eq}
-use Rattle.std.specs.List.{list_any}
-use Rattle.cap_vector.specs.Vector.{amount_max, plus, is_within, is_zero}
-use Rattle.cap_model.specs.declared.refusal.Refusal.{Refusal}
-use Rattle.cap_model.specs.declared.refusal.Refusal.TheVariants.{HostTaken, TotalTooLarge, TooManyNodes, ZeroResource, NumbersSpent}
-use Rattle.cap_base.specs.Limits.{nodes_max, number_end}
-use Rattle.cap_base.specs.Cascade.{earliest}
-use Rattle.cap_model.specs.Flat.{Flat}
-use Rattle.cap_model.specs.RegisterNode.{register_node_refusal, total_of_nodes}
+use Rattle.cap_trackers.proofs.Prelude.{◌≡◌, ℕ, Bool, List, [], ◌∷◌, length, Option, not, nat_le, bytes_eq, list_any, amount_max, plus, is_within, is_zero, Refusal, HostTaken, TotalTooLarge, TooManyNodes, ZeroResource, NumbersSpent, nodes_max, number_end, earliest, Flat, register_node_refusal, total_of_nodes}
 
 pub refusal_is : {K : ℕ} (cluster : Flat K) (host total : List ℕ) (first : Option Refusal) (taken large many none spent : Bool)
     → first ≡ earliest ((taken, HostTaken) ∷ (large, TotalTooLarge) ∷ (many, TooManyNodes) ∷ (none, ZeroResource) ∷ (spent, NumbersSpent) ∷ [])

@@ -1,18 +1,6 @@
 -- The settings of property lines are set as they are: they have as many amounts as the engine has resources.
-use Rattle.std.proofs.Common.{◌≡◌, ℕ, true, List, length, map, take, Option, Some, None, inl, refl, sym, ◌∙◌, ap, arith}
-use Rattle.std.specs.Prelude.{IfSome, is_some, option_map}
-use Rattle.std.proofs.lemmas.List.{map-id, take_all}
-use Rattle.cap_base.proofs.lists.Filters.{map_same}
-use Rattle.cap_base.proofs.lists.Members.{each_of}
-use Rattle.cap_base.specs.Limits.{resources}
-use Rattle.cap_base.specs.Settings.{QueueRow, Settings}
-use Rattle.cap_base.specs.properties.First.{settings_in}
-use Rattle.cap_config.specs.Laws.{HasAmounts, HasOneAnswer, QueueHasAmounts, SettingsHaveAmounts}
-use Rattle.cap_model.specs.declared.request.Request.TheVariants.{Refresh}
+use Rattle.cap_trackers.proofs.Prelude.{◌≡◌, ℕ, true, List, length, map, take, Option, Some, None, inl, refl, sym, ◌∙◌, ap, arith, IfSome, is_some, option_map, map-id, take_all, map_same, each_of, resources, QueueRow, Settings, settings_in, HasAmounts, HasOneAnswer, QueueHasAmounts, SettingsHaveAmounts, Refresh, Flat, after_refresh, first_of_queue, first_of_settings, has_its_queues, with_settings, Replies}
 use Rattle.cap_model.specs.declared.reply.ReplyWith.TheVariants as Reply
-use Rattle.cap_model.specs.Flat.{Flat}
-use Rattle.cap_model.specs.Refresh.{after_refresh, first_of_queue, first_of_settings, has_its_queues, with_settings}
-use Rattle.cap_model.specs.Replies.{Replies}
 use Rattle.cap_trackers.proofs.Answering.{granted_is}
 
 -- what has k amounts is its first k

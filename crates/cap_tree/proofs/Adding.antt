@@ -1,11 +1,5 @@
 -- One more spot, the last, as the last child of a spot on the way to the last.
-use Rattle.std.proofs.Common.{◌≡◌, ℕ, zero, suc, ◌+◌, ◌-◌, ◌≤◌, ◌<◌, Bool, true, false, cond, List, [], ◌∷◌, ◌++◌, length, get_or, set, Option, Some, refl, sym, ◌∙◌, ap, arith, map, ◌≢◌, subst, take}
-use Rattle.std.specs.Prelude.{bytes_eq, ◌||◌}
-use Rattle.std.specs.List.{All, list_any}
-use Rattle.std.proofs.lemmas.Bool.{eq-eqb, ne_eqb}
-use Rattle.std.proofs.lemmas.List.{append_assoc, append-nil, map-append, length-append, length-map, get_or_default}
-use Rattle.std.proofs.lemmas.List.Elements.{All-get_or, All-from_recursion, recursion_from_All}
-use Rattle.cap_tree.specs.Spot.{Spot, leads_to, item_at, path_at, last_position, under, below, spots, HoldsOfItem, IsPosition, IsAdded, IsAddedAt}
+use Rattle.cap_tree.proofs.Prelude.{◌≡◌, ℕ, zero, suc, ◌+◌, ◌-◌, ◌≤◌, ◌<◌, Bool, true, false, cond, List, [], ◌∷◌, ◌++◌, length, get_or, set, Option, Some, refl, sym, ◌∙◌, ap, arith, map, ◌≢◌, subst, take, bytes_eq, ◌||◌, All, list_any, eq-eqb, ne_eqb, append_assoc, append-nil, map-append, length-append, length-map, get_or_default, All-get_or, All-from_recursion, recursion_from_All, Spot, leads_to, item_at, path_at, last_position, under, below, spots, HoldsOfItem, IsPosition, IsAdded, IsAddedAt}
 use Rattle.cap_tree.proofs.Spots.{item_at-spots}
 
 pub from_zero : (n : ℕ) → 0 + n ≡ n

@@ -1,14 +1,5 @@
 -- What the conditions of the calls say of the item at a position.
-use Rattle.std.proofs.Common.{ℕ, ◌<◌, List, [], ◌∷◌, Option, Some, None, inl, inr, arith}
-use Rattle.std.specs.Option.{option_map_or}
-use Rattle.cap_vector.proofs.AmountLemmas.{amount-zeros}
-use Rattle.cap_base.specs.Limits.{number_end}
-use Rattle.cap_tree.specs.Spot.{Spot, item_at, HoldsOfItem, IsPosition}
-use Rattle.cap_tree.specs.Measure.{Measure}
-use Rattle.cap_tree.specs.Count.{Count, IsPart, zero_count, one_app, use_alone}
-use Rattle.cap_tree.specs.QueueLaws.{zero_counts}
-use Rattle.cap_tree.specs.Queue.{Queue, MayLeave, MayGive, user_row, count_in}
-use Rattle.cap_tree.specs.Rows.{Row, HasRoomAtRoot, active_in, user_row_at}
+use Rattle.cap_tree.proofs.Prelude.{ℕ, ◌<◌, List, [], ◌∷◌, Option, Some, None, inl, inr, arith, option_map_or, amount-zeros, number_end, Spot, item_at, HoldsOfItem, IsPosition, Measure, Count, IsPart, zero_count, one_app, use_alone, zero_counts, Queue, MayLeave, MayGive, user_row, count_in, Row, HasRoomAtRoot, active_in, user_row_at}
 
 -- what holds of a user's row at a position, and of the user's row in the queue there
 

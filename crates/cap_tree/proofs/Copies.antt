@@ -1,15 +1,6 @@
 -- The spots of a tree whose items are copies.
-use Rattle.std.specs.Prelude.{Option, Some, None, bytes_eq, option_map}
+use Rattle.cap_tree.proofs.Prelude.{Option, Some, None, bytes_eq, option_map, ◌≡◌, ℕ, Bool, true, false, cond, suc, ◌+◌, ◌≤◌, List, [], ◌∷◌, ◌++◌, length, refl, sym, ◌∙◌, ap, subst, arith, map, sum_by, take, get_or, ◌<◌, get_or-map, map-append, length-map, length-take-le, take_all, take_more, sum_by-cons, All-map, in_map, Measure, HasPathsOnce, items_along, Spot, HoldsOfItem, IsPosition, along, below, change_along, first_failing, first_of, item_at, leads_to, made_of, spots, under, AreSpots, IsBranch, of_tree}
 use Rattle.cap_tree.proofs.Looking.{failing-cons, level_from}
-use Rattle.std.proofs.Common.{◌≡◌, ℕ, Bool, true, false, cond, suc, ◌+◌, ◌≤◌, List, [], ◌∷◌, ◌++◌, length, refl, sym, ◌∙◌, ap, subst, arith, map, sum_by, take, get_or, ◌<◌}
-use Rattle.std.proofs.lemmas.List.{get_or-map, map-append, length-map, length-take-le, take_all, take_more}
-use Rattle.std.proofs.lemmas.List.Sums.{sum_by-cons}
-use Rattle.std.proofs.lemmas.List.Elements.{All-map}
-use Rattle.cap_base.proofs.lists.Members.{in_map}
-use Rattle.cap_tree.specs.Measure.{Measure}
-use Rattle.cap_tree.specs.Service.{HasPathsOnce, items_along}
-use Rattle.cap_tree.specs.Spot.{Spot, HoldsOfItem, IsPosition, along, below, change_along, first_failing, first_of, item_at, leads_to, made_of, spots, under}
-use Rattle.cap_tree.specs.Branch.{AreSpots, IsBranch, of_tree}
 
 module _ {T U : Type 0} (f : T → U) where
   made-under : (name : List ℕ) (j : ℕ) (ss : List (Spot T)) → map (under name j) (map (made_of f) ss) ≡ map (made_of f) (map (under name j) ss)

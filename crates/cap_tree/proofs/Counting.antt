@@ -1,11 +1,5 @@
 -- How many spots a tree has.
-use Rattle.std.proofs.Common.{◌≡◌, ℕ, suc, ◌+◌, ◌≤◌, ◌<◌, Bool, false, true, List, [], ◌∷◌, ◌++◌, length, map, take, get_or, refl, sym, ◌∙◌, ap, arith, sum_by}
-use Rattle.std.specs.Prelude.{◌==◌, nat_eq}
-use Rattle.std.proofs.lemmas.Bool.Decides.{nat_tests}
-use Rattle.std.proofs.lemmas.List.{length-append, length-map, take_all, take_more}
-use Rattle.std.proofs.lemmas.List.Sums.{sum_by-cons, sum_by-take-le, sum_by_push}
-use Rattle.cap_base.proofs.lists.Tests.{same_test}
-use Rattle.cap_tree.specs.Spot.{Spot, under, below, spots}
+use Rattle.cap_tree.proofs.Prelude.{◌≡◌, ℕ, suc, ◌+◌, ◌≤◌, ◌<◌, Bool, false, true, List, [], ◌∷◌, ◌++◌, length, map, take, get_or, refl, sym, ◌∙◌, ap, arith, sum_by, ◌==◌, nat_eq, nat_tests, length-append, length-map, take_all, take_more, sum_by-cons, sum_by-take-le, sum_by_push, same_test, Spot, under, below, spots}
 
 module _ {T : Type 0} where
   length-all_below : (name : List ℕ) (j : ℕ) (kids : List (List (Spot T))) → length (below name j kids) ≡ sum_by length kids

@@ -1,14 +1,5 @@
 -- The queue that is found at a path.
-use Rattle.std.proofs.Common.{◌≡◌, ℕ, Bool, true, false, cond, ◌&&◌, List, [], ◌∷◌, ◌++◌, Some, None, refl, sym, ◌∙◌, ap, subst, arith, inl, inr}
-use Rattle.std.specs.Prelude.{◌⊎◌, bytes_eq, nat_eq, ◌==◌, ◌||◌, not, find}
-use Rattle.std.specs.List.{starts_with}
-use Rattle.std.proofs.lemmas.Bool.Decides.{nat_tests}
-use Rattle.std.proofs.lemmas.Slice.Eq.{bytes_eq-Decides}
-use Rattle.cap_base.specs.Paths.{is_under}
-use Rattle.cap_base.proofs.lists.Members.{IsIn}
-use Rattle.cap_base.proofs.paths.Paths.{under_itself}
-use Rattle.cap_tree.specs.Spot.{leads_to, leads_below, position_of_path, has_below, item_at, HoldsOfItem, IsPosition}
-use Rattle.cap_tree.specs.Rows.{Row, PositionsArePaths, queues_of, has_children, IsAt}
+use Rattle.cap_tree.proofs.Prelude.{◌≡◌, ℕ, Bool, true, false, cond, ◌&&◌, List, [], ◌∷◌, ◌++◌, Some, None, refl, sym, ◌∙◌, ap, subst, arith, inl, inr, ◌⊎◌, bytes_eq, nat_eq, ◌==◌, ◌||◌, not, find, starts_with, nat_tests, bytes_eq-Decides, is_under, IsIn, under_itself, leads_to, leads_below, position_of_path, has_below, item_at, HoldsOfItem, IsPosition, Row, PositionsArePaths, queues_of, has_children, IsAt}
 use Rattle.cap_tree.proofs.RowPaths.{at_position, agree, same_row, same_path}
 
 -- the row of a path

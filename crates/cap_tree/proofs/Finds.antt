@@ -1,16 +1,5 @@
 -- What a search for a path finds, as the code tells it.
-use Rattle.std.proofs.Common.{◌≡◌, ℕ, ◌+◌, ◌-◌, ◌≤◌, ◌<◌, Bool, true, false, List, [], ◌∷◌, ◌++◌, zero, suc, map, length, get_or, Option, Some, None, sym, ◌∙◌, ap, arith, ◌≢◌, subst, take, drop, inl, inr}
-use Rattle.std.specs.Prelude.{nat_eq, bytes_eq, cond}
-use Rattle.std.specs.Cmp.Lexicographic.{pointwise}
-use Rattle.smallvec.specs.SmallVec.{SmallVec, HasRoomFor}
-use Rattle.cap_tree.specs.Spot.{Spot, position_of_path, has_below, spots, under, below}
-use Rattle.cap_tree.specs.Finding.{IsStart, IsFoundAt, IsMissing, is_parent}
-use Rattle.cap_tree.specs.declared.found.Kind.{Kind}
-use Rattle.std.specs.Prelude.{◌⊎◌}
-use Rattle.std.specs.List.{All, AllByRecursion}
-use Rattle.std.proofs.lemmas.List.Elements.{recursion_from_All}
-use Rattle.cap_base.proofs.lists.Members.{IsIn, in_left, in_right, each_of, of_each, in_map}
-use Rattle.std.proofs.lemmas.List.{get_or_default, length-append, length-map}
+use Rattle.cap_tree.proofs.Prelude.{◌≡◌, ℕ, ◌+◌, ◌-◌, ◌≤◌, ◌<◌, Bool, true, false, List, [], ◌∷◌, ◌++◌, zero, suc, map, length, get_or, Option, Some, None, sym, ◌∙◌, ap, arith, ◌≢◌, subst, take, drop, inl, inr, nat_eq, bytes_eq, cond, pointwise, SmallVec, HasRoomFor, Spot, position_of_path, has_below, spots, under, below, IsStart, IsFoundAt, IsMissing, is_parent, Kind, ◌⊎◌, All, AllByRecursion, recursion_from_All, IsIn, in_left, in_right, each_of, of_each, in_map, get_or_default, length-append, length-map}
 use Rattle.cap_tree.proofs.Looking.{NoneBefore, IsInside, missing_by_name, found_here, missing_by_dot, inside, missing_inside, found_inside, below_inside}
 
 -- the path begins with the name, and this is the rest

@@ -1,31 +1,5 @@
 -- One more queue, under the one that its path names.
-use Rattle.std.proofs.Common.{◌≡◌, ℕ, suc, ◌+◌, ◌-◌, ◌≤◌, ◌<◌, Bool, true, false, cond, ◌&&◌, List, [], ◌∷◌, ◌++◌, length, take, drop, get_or, Some, refl, sym, ◌∙◌, ap, subst, arith, inl, inr}
-use Rattle.std.specs.Prelude.{◌⊎◌, bytes_eq, ◌==◌, ◌||◌, find, is_some}
-use Rattle.std.specs.List.{All, list_any}
-use Rattle.std.proofs.lemmas.Bool.Decides.{nat_tests}
-use Rattle.std.proofs.Math.Seq.{drop-cons}
-use Rattle.std.proofs.lemmas.List.{append_assoc, length-append, length-map, length-take, map-append, take_more, take_all}
-use Rattle.std.proofs.lemmas.List.Sums.{sum_by-cons, sum_by-append}
-use Rattle.std.proofs.lemmas.Slice.Eq.{bytes_eq-Decides}
-use Rattle.std.proofs.lemmas.Bool.{false_from_ne_true}
-use Rattle.cap_base.specs.Settings.{QueueRow}
-use Rattle.cap_base.specs.Paths.{is_under, name_of, root_path}
-use Rattle.cap_base.specs.Trees.{HasDistinctPaths, has_path, depth}
-use Rattle.cap_base.specs.Listing.{IsListed, IsListing}
-use Rattle.cap_base.specs.Limits.{depth_max, queues_max}
-use Rattle.cap_base.proofs.lists.Members.{IsIn, in_right, in_either, each_of, of_each, in_map}
-use Rattle.cap_base.proofs.paths.Paths.{IsUnder, under_is, is_under_it, name_has_none, dot_in, head_is, tail_is, under_itself, has_dot}
-use Rattle.cap_base.proofs.lists.Tests.{same_test}
-use Rattle.cap_base.proofs.paths.Levels.{no_levels}
-use Rattle.cap_tree.specs.Spot.{leads_to, path_at, last_position, IsAddedAt, IsAdded}
-use Rattle.cap_vector.specs.Vector.{amount}
-use Rattle.cap_vector.proofs.AmountLemmas.{amount-zeros}
-use Rattle.cap_tree.specs.Measure.{Measure}
-use Rattle.cap_tree.specs.Queue.{Queue, HasSettingsOf, IsUnused, of_queue, of_users}
-use Rattle.cap_tree.specs.Count.{of_count}
-use Rattle.cap_tree.specs.UserLaws.{sum_of, sum-no_users}
-use Rattle.cap_tree.specs.Rows.{Row, AreRows, PositionsArePaths, HasLastName, settings_of_row, queues_of}
-use Rattle.cap_tree.specs.Growth.{IsClosed, IsGrowing}
+use Rattle.cap_tree.proofs.Prelude.{◌≡◌, ℕ, suc, ◌+◌, ◌-◌, ◌≤◌, ◌<◌, Bool, true, false, cond, ◌&&◌, List, [], ◌∷◌, ◌++◌, length, take, drop, get_or, Some, refl, sym, ◌∙◌, ap, subst, arith, inl, inr, ◌⊎◌, bytes_eq, ◌==◌, ◌||◌, find, is_some, All, list_any, nat_tests, drop-cons, append_assoc, length-append, length-map, length-take, map-append, take_more, take_all, sum_by-cons, sum_by-append, bytes_eq-Decides, false_from_ne_true, QueueRow, is_under, name_of, root_path, HasDistinctPaths, has_path, depth, IsListed, IsListing, depth_max, queues_max, IsIn, in_right, in_either, each_of, of_each, in_map, IsUnder, under_is, is_under_it, name_has_none, dot_in, head_is, tail_is, under_itself, has_dot, same_test, no_levels, leads_to, path_at, last_position, IsAddedAt, IsAdded, amount, amount-zeros, Measure, Queue, HasSettingsOf, IsUnused, of_queue, of_users, of_count, sum_of, sum-no_users, Row, AreRows, PositionsArePaths, HasLastName, settings_of_row, queues_of, IsClosed, IsGrowing}
 use Rattle.cap_tree.proofs.RowPaths.{at_position, agree, same_row, leads_itself}
 use Rattle.cap_tree.proofs.Adding.{last-append}
 

@@ -11,6 +11,7 @@ pub mod Names
 pub mod NextServed
 pub mod OneUser
 pub mod Orders
+mod Prelude
 pub mod Rooms
 pub mod RowPaths
 pub mod RowSettings

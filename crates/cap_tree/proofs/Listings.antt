@@ -1,16 +1,5 @@
 -- A listing of queues stays one where paths and factors stay.
-use Rattle.std.proofs.Common.{◌≡◌, ℕ, ◌≤◌, Bool, true, false, cond, List, [], ◌∷◌, ◌++◌, map, Option, Some, refl, sym, ◌∙◌, ap, subst}
-use Rattle.std.specs.Prelude.{bytes_eq, find, is_some, ◌||◌, if◌then◌else◌}
-use Rattle.std.specs.List.{All, list_any}
-use Rattle.cap_base.specs.Settings.{QueueRow}
-use Rattle.cap_base.specs.Paths.{is_under}
-use Rattle.cap_base.specs.Trees.{HasDistinctPaths, has_path, depth}
-use Rattle.cap_base.specs.Listing.{MayFollow, IsListed, IsListedFromRoot, IsListing}
-use Rattle.cap_base.specs.Limits.{depth_max, factor_max}
-use Rattle.cap_base.proofs.lists.Members.{each_of, of_each, of_map}
-use Rattle.cap_tree.specs.Spot.{change_along, leads_to}
-use Rattle.cap_tree.specs.Queue.{Queue, with_running, with_settings}
-use Rattle.cap_tree.specs.Rows.{Row, AreRows, queues_of, settings_of_row, changed_at, with_row, with_state}
+use Rattle.cap_tree.proofs.Prelude.{◌≡◌, ℕ, ◌≤◌, Bool, true, false, cond, List, [], ◌∷◌, ◌++◌, map, Option, Some, refl, sym, ◌∙◌, ap, subst, bytes_eq, find, is_some, ◌||◌, if◌then◌else◌, All, list_any, QueueRow, is_under, HasDistinctPaths, has_path, depth, MayFollow, IsListed, IsListedFromRoot, IsListing, depth_max, factor_max, each_of, of_each, of_map, change_along, leads_to, Queue, with_running, with_settings, Row, AreRows, queues_of, settings_of_row, changed_at, with_row, with_state}
 use Rattle.cap_tree.proofs.RowPaths.{names_kept, short_kept, paths_kept}
 
 -- where paths stay, what they say of each other stays

@@ -1,15 +1,6 @@
 -- What is on the way to a position, and below it.
-use Rattle.std.proofs.Common.{◌≡◌, ℕ, zero, suc, ◌+◌, ◌-◌, ◌≤◌, ◌<◌, Bool, true, false, cond, ◌&&◌, List, [], ◌∷◌, ◌++◌, length, get_or, Option, Some, None, refl, sym, ◌∙◌, ap, arith, map, ◌≢◌, subst, take, drop}
-use Rattle.std.specs.Prelude.{bytes_eq, nat_eq, nat_lt, not, option_map, if◌then◌else◌, ◌||◌, ◌==◌}
-use Rattle.std.specs.List.{All, position_or_len}
-use Rattle.std.specs.Cmp.Lexicographic.{pointwise}
-use Rattle.std.proofs.lemmas.Bool.Decides.{nat_tests}
-use Rattle.std.proofs.lemmas.List.Elements.{All-get_or}
-use Rattle.std.proofs.lemmas.Bool.{eq-eqb, ne_eqb}
-use Rattle.std.proofs.lemmas.List.{get_or_default, append-nil}
-use Rattle.cap_tree.specs.Spot.{Spot, leads_to, leads_below, under, below, spots, position_of_path, along, first_failing, has_below}
+use Rattle.cap_tree.proofs.Prelude.{◌≡◌, ℕ, zero, suc, ◌+◌, ◌-◌, ◌≤◌, ◌<◌, Bool, true, false, cond, ◌&&◌, List, [], ◌∷◌, ◌++◌, length, get_or, Option, Some, None, refl, sym, ◌∙◌, ap, arith, map, ◌≢◌, subst, take, drop, bytes_eq, nat_eq, nat_lt, not, option_map, if◌then◌else◌, ◌||◌, ◌==◌, All, position_or_len, pointwise, nat_tests, All-get_or, eq-eqb, ne_eqb, get_or_default, append-nil, Spot, leads_to, leads_below, under, below, spots, position_of_path, along, first_failing, has_below, bytes_itself}
 use Rattle.cap_tree.proofs.Spots.{steps-is, steps-empty}
-use Rattle.cap_base.proofs.lists.Tests.{bytes_itself}
 
 abbrev placed : ℕ → Option (List ℕ) → Option (List ℕ) → Option (List ℕ)
 placed i None rest = rest

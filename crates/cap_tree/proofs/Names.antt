@@ -1,10 +1,5 @@
 -- The last name of a path.
-use Rattle.std.proofs.Common.{◌≡◌, ℕ, zero, suc, ◌<◌, Bool, true, false, List, [], ◌∷◌, length, length-drop, take, drop, get_or, refl, sym, ◌∙◌, ap, subst, inl, inr, ◌⊎◌, ◌-◌, ◌≤◌, arith}
-use Rattle.std.specs.Prelude.{cond, ◌==◌, ◌||◌}
-use Rattle.std.specs.List.{list_any}
-use Rattle.std.proofs.lemmas.Bool.{eq-eqb, ne_eqb}
-use Rattle.std.proofs.lemmas.List.{take_all}
-use Rattle.cap_base.specs.Paths.{name_of}
+use Rattle.cap_tree.proofs.Prelude.{◌≡◌, ℕ, zero, suc, ◌<◌, Bool, true, false, List, [], ◌∷◌, length, length-drop, take, drop, get_or, refl, sym, ◌∙◌, ap, subst, inl, inr, ◌⊎◌, ◌-◌, ◌≤◌, arith, cond, ◌==◌, ◌||◌, list_any, eq-eqb, ne_eqb, take_all, name_of}
 
 abbrev pub has_dot : List ℕ → Bool
 has_dot path = list_any (λ x. x == 46) path

@@ -1,25 +1,5 @@
 -- What is served first or next of what waits in a tree that a snapshot keeps.
-use Rattle.std.proofs.Common.{◌≡◌, ℕ, ◌+◌, ◌-◌, ◌<◌, ◌≤◌, false, List, [], length, get_or, map, drop, Some, None, refl, sym, ◌∙◌, ap, subst, arith, inl, inr, ◌⊎◌}
-use Rattle.std.specs.List.{slice_get}
-use Rattle.std.specs.Option.{option_map_or}
-use Rattle.std.specs.Ordering.{nat_cmp, ordering_reverse, ordering_then, is_gt}
-use Rattle.std.specs.declared.cmp.Ordering.{Ordering}
-use Rattle.std.specs.declared.cmp.Ordering.TheVariants.{Less, Equal, Greater}
-use Rattle.std.specs.Cmp.{IsTotalOrder, nat_cmp_is}
-use Rattle.std.specs.Cmp.Lexicographic.{slice_cmp}
-use Rattle.std.proofs.lemmas.Bool.{cases_lt}
-use Rattle.std.proofs.lemmas.Cmp.{lists_total, on_total, tied_itself}
-use Rattle.std.proofs.lemmas.List.{drop-map, get_or_default}
-use Rattle.std.proofs.lemmas.Option.{slice_get-get_or, slice_get_within}
-use Rattle.cap_base.specs.Cascade.{holds_of}
-use Rattle.cap_base.specs.Levels.{level_cmp}
-use Rattle.cap_tree.specs.Rows.{Row}
-use Rattle.cap_tree.specs.Seen.{IsFirstFrom, IsSeenTree, SeenQueue, rows_seen, seen_cmp}
-use Rattle.cap_tree.specs.Service.{HasPathsOnce, items_along, levels_at, queue_cmp}
-use Rattle.cap_tree.specs.ServiceLaws.{queue_cmp_total}
-use Rattle.cap_tree.specs.ServiceOrder.{IsFirstLater, IsLater, IsNextServed, waiting_cmp}
-use Rattle.cap_tree.specs.Spot.{Spot, IsPosition, item_at}
-use Rattle.cap_tree.specs.Walk.{HasNoMarkAfter, IsFirstMark, IsMarkAfter, IsUpTo, mark_at, place_cmp}
+use Rattle.cap_tree.proofs.Prelude.{◌≡◌, ℕ, ◌+◌, ◌-◌, ◌<◌, ◌≤◌, false, List, [], length, get_or, map, drop, Some, None, refl, sym, ◌∙◌, ap, subst, arith, inl, inr, ◌⊎◌, slice_get, option_map_or, nat_cmp, ordering_reverse, ordering_then, is_gt, Ordering, Less, Equal, Greater, IsTotalOrder, nat_cmp_is, slice_cmp, cases_lt, lists_total, on_total, tied_itself, drop-map, get_or_default, slice_get-get_or, slice_get_within, holds_of, level_cmp, Row, IsFirstFrom, IsSeenTree, SeenQueue, rows_seen, seen_cmp, HasPathsOnce, items_along, levels_at, queue_cmp, queue_cmp_total, IsFirstLater, IsLater, IsNextServed, waiting_cmp, Spot, IsPosition, item_at, HasNoMarkAfter, IsFirstMark, IsMarkAfter, IsUpTo, mark_at, place_cmp}
 use Rattle.cap_tree.proofs.Copies.{items_along-made, made-position, once-made}
 use Rattle.cap_tree.proofs.ServiceRows.{cmp_mapped, rows_once, served_rows}
 use Rattle.cap_tree.proofs.Walks.{mark_there}

@@ -1,14 +1,5 @@
 -- What is counted of one user of a leaf, after a move of some user's count.
-use Rattle.std.proofs.Common.{◌≡◌, ℕ, ◌+◌, ◌≤◌, Bool, true, false, cond, List, Option, Some, None, refl, sym, ◌∙◌, ap, arith}
-use Rattle.std.specs.Prelude.{bytes_eq, if◌then◌else◌}
-use Rattle.std.specs.Option.{option_map_or}
-use Rattle.std.proofs.lemmas.Slice.Eq.{bytes_eq-Decides}
-use Rattle.cap_base.proofs.lists.Tests.{bytes_turned}
-use Rattle.cap_tree.specs.Measure.{Measure}
-use Rattle.cap_tree.specs.Count.{Count, IsPart, of_count, is_zero_count, count_moved}
-use Rattle.cap_tree.specs.Queue.{Users, of_user, user_row, count_in, with_count}
-use Rattle.cap_tree.specs.QueueLaws.{moved_counts, is_zero_counts, user_counts}
-use Rattle.cap_tree.specs.UserLaws.{user_row-with_count}
+use Rattle.cap_tree.proofs.Prelude.{◌≡◌, ℕ, ◌+◌, ◌≤◌, Bool, true, false, cond, List, Option, Some, None, refl, sym, ◌∙◌, ap, arith, bytes_eq, if◌then◌else◌, option_map_or, bytes_eq-Decides, bytes_turned, Measure, Count, IsPart, of_count, is_zero_count, count_moved, Users, of_user, user_row, count_in, with_count, moved_counts, is_zero_counts, user_counts, user_row-with_count}
 
 -- where something is counted of a user, the user has a row
 pub some_row : (user : List ℕ) (m : Measure) (us : Users) → 1 ≤ of_user user m us → (row : Count) × (user_row user us ≡ Some row)

@@ -1,23 +1,6 @@
 -- Indexes of children that are kept in the order of service.
 use denote.Ref.{Bor}
-use Rattle.std.proofs.Common.{◌≡◌, ℕ, true, false, ◌+◌, ◌-◌, ◌<◌, ◌≤◌, Bool, List, [], ◌∷◌, length, get_or, Option, Some, None, refl, sym, ◌∙◌, ap, arith, subst, inl, inr, ◌⊎◌}
-use Rattle.std.specs.Prelude.{IfSome, MatchOption, is_some, nat_lt}
-use Rattle.std.specs.List.{All, insert, slice_get}
-use Rattle.std.specs.Option.{option_cmp, option_copied}
-use Rattle.std.specs.Ordering.{ordering_reverse, is_gt, is_lt}
-use Rattle.std.specs.declared.cmp.Ordering.{Ordering}
-use Rattle.std.specs.declared.cmp.Ordering.TheVariants.{Less, Equal, Greater}
-use Rattle.std.specs.Cmp.{IsTotalOrder}
-use Rattle.std.specs.Cmp.Lexicographic.{options_total}
-use Rattle.std.proofs.lemmas.Bool.{cases_lt, ltb-false, ltb-true}
-use Rattle.std.proofs.lemmas.Cmp.{tied_itself}
-use Rattle.std.proofs.lemmas.List.{get_or_default, get_or_past}
-use Rattle.std.proofs.lemmas.List.Edits.{get_or-insert_at, get_or-insert_below, get_or-insert_above, length-insert}
-use Rattle.std.proofs.lemmas.Option.{slice_get-get_or, slice_get_past, slice_get_read}
-use Rattle.cap_base.specs.Cascade.{holds_of}
-use Rattle.cap_tree.specs.Branch.{AreSpots}
-use Rattle.cap_tree.specs.Service.{AreApart, AreSorted, ComesAfter, HasNoneAfter, HasPathsOnce, IsFirstAfter, IsOrderOf, IsPlaceAfter, IsThere, IsTop, child_cmp, child_item, children_at, kid_items, that_pass}
-use Rattle.cap_tree.specs.Spot.{Spot, HoldsOfItem, item_at, spots}
+use Rattle.cap_tree.proofs.Prelude.{◌≡◌, ℕ, true, false, ◌+◌, ◌-◌, ◌<◌, ◌≤◌, Bool, List, [], ◌∷◌, length, get_or, Option, Some, None, refl, sym, ◌∙◌, ap, arith, subst, inl, inr, ◌⊎◌, IfSome, MatchOption, is_some, nat_lt, All, insert, slice_get, option_cmp, option_copied, ordering_reverse, is_gt, is_lt, Ordering, Less, Equal, Greater, IsTotalOrder, options_total, cases_lt, ltb-false, ltb-true, tied_itself, get_or_default, get_or_past, get_or-insert_at, get_or-insert_below, get_or-insert_above, length-insert, slice_get-get_or, slice_get_past, slice_get_read, holds_of, AreSpots, AreApart, AreSorted, ComesAfter, HasNoneAfter, HasPathsOnce, IsFirstAfter, IsOrderOf, IsPlaceAfter, IsThere, IsTop, child_cmp, child_item, children_at, kid_items, that_pass, Spot, HoldsOfItem, item_at, spots}
 use Rattle.cap_tree.proofs.Service.{less_is, not_less, passing_there, there_passing, there_within}
 use Rattle.cap_tree.proofs.Spots.{item_at-spots}
 use Rattle.cap_tree.proofs.Walks.{two, within}

@@ -1,6 +1,5 @@
 -- Room for a count in a part of what it is counted in.
-use Rattle.std.proofs.Common.{ℕ, ◌+◌, ◌-◌, ◌≤◌, arith, inl, inr}
-use Rattle.cap_tree.specs.Measure.{StaysBounded}
+use Rattle.cap_tree.proofs.Prelude.{ℕ, ◌+◌, ◌-◌, ◌≤◌, arith, inl, inr, StaysBounded}
 
 pub room_in_child : (part whole old new bound : ℕ) → part ≤ whole → StaysBounded whole old new bound → StaysBounded part old new bound
 room_in_child part whole old new bound l (inl r) = inl r

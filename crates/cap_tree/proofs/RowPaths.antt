@@ -1,19 +1,6 @@
 -- The rows of a tree by position and by path.
-use Rattle.std.proofs.Common.{◌≡◌, ℕ, ◌≤◌, Bool, true, false, cond, ◌&&◌, List, [], ◌∷◌, ◌++◌, length, map, Some, refl, sym, ◌∙◌, ap, subst, arith, inl, inr}
-use Rattle.std.specs.Prelude.{bytes_eq, ◌==◌, Option, None, filter, not, is_some}
-use Rattle.std.specs.List.{All, list_all}
-use Rattle.std.proofs.lemmas.Bool.Decides.{nat_tests}
-use Rattle.std.proofs.lemmas.List.{length-append}
-use Rattle.std.proofs.lemmas.Slice.Eq.{bytes_eq-Decides}
-use Rattle.cap_base.specs.Settings.{QueueRow}
-use Rattle.cap_base.specs.Paths.{is_under, name_of}
-use Rattle.cap_base.proofs.lists.Members.{IsIn, each_of, of_each, of_map}
-use Rattle.cap_base.proofs.paths.Paths.{IsUnder, under_is, under_itself}
-use Rattle.cap_base.proofs.lists.Filters.{map_same, filter_same}
-use Rattle.cap_tree.specs.Spot.{leads_to, item_at, path_at, change_along, along, first_failing, HoldsOfItem, IsPosition}
-use Rattle.cap_tree.specs.Queue.{Queue}
+use Rattle.cap_tree.proofs.Prelude.{◌≡◌, ℕ, ◌≤◌, Bool, true, false, cond, ◌&&◌, List, [], ◌∷◌, ◌++◌, length, map, Some, refl, sym, ◌∙◌, ap, subst, arith, inl, inr, bytes_eq, ◌==◌, Option, None, filter, not, is_some, All, list_all, nat_tests, length-append, bytes_eq-Decides, QueueRow, is_under, name_of, IsIn, each_of, of_each, of_map, IsUnder, under_is, under_itself, map_same, filter_same, leads_to, item_at, path_at, change_along, along, first_failing, HoldsOfItem, IsPosition, Queue, Row, HasLastName, PositionsArePaths, settings_of_row, queues_of, changed_at, items_to, rows_to, is_running}
 use Rattle.cap_tree.proofs.Looking.{level_from, failing-cons}
-use Rattle.cap_tree.specs.Rows.{Row, HasLastName, PositionsArePaths, settings_of_row, queues_of, changed_at, items_to, rows_to, is_running}
 
 -- two are the same where each leads to the other
 

@@ -1,20 +1,5 @@
 -- Settings are set row by row: each queue takes those of the row of its path.
-use Rattle.std.proofs.Common.{◌≡◌, ℕ, suc, zero, ◌+◌, ◌≤◌, ◌<◌, Bool, true, false, cond, List, [], ◌∷◌, ◌++◌, length, map, take, drop, get_or, Option, Some, None, refl, sym, ◌∙◌, ap, subst, arith, inl}
-use Rattle.std.specs.Prelude.{bytes_eq, ◌||◌, find, is_some, if◌then◌else◌}
-use Rattle.std.specs.Option.{option_map_or}
-use Rattle.std.specs.List.{list_all, list_any}
-use Rattle.std.proofs.lemmas.Bool.{and_parts}
-use Rattle.std.proofs.lemmas.List.{take_all, take_more}
-use Rattle.std.proofs.lemmas.Slice.Eq.{bytes_eq-Decides}
-use Rattle.cap_base.specs.Settings.{QueueRow}
-use Rattle.cap_base.specs.Limits.{factor_max}
-use Rattle.cap_base.specs.Listing.{IsListing}
-use Rattle.cap_base.specs.Trees.{HasDistinctPaths, has_path, has_same_paths}
-use Rattle.cap_base.proofs.lists.Filters.{map_same, map_twice}
-use Rattle.cap_base.proofs.lists.Members.{in_right, none_in, all_in, each_of}
-use Rattle.cap_base.proofs.lists.Tests.{or_left, or_right, bytes_turned}
-use Rattle.cap_tree.specs.Queue.{with_settings}
-use Rattle.cap_tree.specs.Rows.{Row, queues_of, settings_of_row, with_row, with_row_of_path}
+use Rattle.cap_tree.proofs.Prelude.{◌≡◌, ℕ, suc, zero, ◌+◌, ◌≤◌, ◌<◌, Bool, true, false, cond, List, [], ◌∷◌, ◌++◌, length, map, take, drop, get_or, Option, Some, None, refl, sym, ◌∙◌, ap, subst, arith, inl, bytes_eq, ◌||◌, find, is_some, if◌then◌else◌, option_map_or, list_all, list_any, and_parts, take_all, take_more, bytes_eq-Decides, QueueRow, factor_max, IsListing, HasDistinctPaths, has_path, has_same_paths, map_same, map_twice, in_right, none_in, all_in, each_of, or_left, or_right, bytes_turned, with_settings, Row, queues_of, settings_of_row, with_row, with_row_of_path}
 use Rattle.cap_tree.proofs.SamePaths.{member}
 
 -- one more row, of a path that none before it has

@@ -1,18 +1,5 @@
 -- Two lists without repeats have the same paths where each path of the one is in the other and they are as long.
-use Rattle.std.proofs.Common.{◌≡◌, ℕ, suc, ◌+◌, ◌≤◌, ◌<◌, Bool, true, false, cond, List, [], ◌∷◌, ◌++◌, length, take, get_or, zero, Some, None, refl, sym, ◌∙◌, ap, subst, arith, inl, inr}
-use Rattle.std.specs.Prelude.{bytes_eq, ◌||◌, filter, find, is_some, not}
-use Rattle.std.specs.List.{list_all, list_any}
-use Rattle.std.proofs.lemmas.Bool.{and_parts, and_from}
-use Rattle.std.proofs.lemmas.List.{take_more}
-use Rattle.std.proofs.lemmas.Slice.Eq.{bytes_eq-Decides}
-use Rattle.cap_base.specs.Settings.{QueueRow}
-use Rattle.cap_base.specs.Trees.{HasDistinctPaths, has_path, has_same_paths}
-use Rattle.cap_base.proofs.lists.Filters.{length-kept}
-use Rattle.cap_base.proofs.lists.Members.{IsIn, all_in}
-use Rattle.cap_base.proofs.lists.Tests.{or_left, or_right, same_test}
-use Rattle.cap_tree.specs.declared.found.Found.{Found}
-use Rattle.cap_tree.specs.declared.found.Found.TheVariants.{Leaf, Parent, Missing}
-use Rattle.cap_tree.specs.Rows.{Row, FindsQueue, IsAt, queues_of}
+use Rattle.cap_tree.proofs.Prelude.{◌≡◌, ℕ, suc, ◌+◌, ◌≤◌, ◌<◌, Bool, true, false, cond, List, [], ◌∷◌, ◌++◌, length, take, get_or, zero, Some, None, refl, sym, ◌∙◌, ap, subst, arith, inl, inr, bytes_eq, ◌||◌, filter, find, is_some, not, list_all, list_any, and_parts, and_from, take_more, bytes_eq-Decides, QueueRow, HasDistinctPaths, has_path, has_same_paths, length-kept, IsIn, all_in, or_left, or_right, same_test, Found, Leaf, Parent, Missing, Row, FindsQueue, IsAt, queues_of}
 use Rattle.cap_tree.proofs.Growing.{path_of_row}
 use Rattle.cap_tree.proofs.RowPaths.{at_position}
 

@@ -1,21 +1,5 @@
 -- The order of service, in a tree and its children.
-use Rattle.std.proofs.Common.{◌≡◌, ℕ, zero, suc, ◌+◌, ◌<◌, Bool, true, false, cond, List, [], ◌∷◌, ◌++◌, length, get_or, Option, Some, None, refl, sym, ◌∙◌, ap, arith, map, subst, drop, inl, inr, ◌⊎◌}
-use Rattle.std.specs.Prelude.{IfSome, MatchOption}
-use Rattle.std.specs.Option.{option_cmp}
-use Rattle.std.specs.Ordering.{ordering_reverse, is_gt, is_lt}
-use Rattle.std.specs.declared.cmp.Ordering.{Ordering}
-use Rattle.std.specs.declared.cmp.Ordering.TheVariants.{Less, Equal, Greater}
-use Rattle.std.specs.Cmp.{IsTotalOrder}
-use Rattle.std.specs.Cmp.Lexicographic.{options_total}
-use Rattle.std.proofs.lemmas.Bool.{cases_lt}
-use Rattle.std.proofs.lemmas.Map.Entries.{option_filter}
-use Rattle.std.proofs.lemmas.Cmp.{on_total, tied_itself, upto}
-use Rattle.std.proofs.lemmas.List.{get_or_default}
-use Rattle.cap_base.proofs.lists.Members.{IsIn, in_left, in_right, in_map}
-use Rattle.cap_base.specs.Cascade.{holds_of}
-use Rattle.cap_base.specs.Texts.{dot}
-use Rattle.cap_tree.specs.Spot.{Spot, along, under, below, spots, item_at, HoldsOfItem}
-use Rattle.cap_tree.specs.Service.{HasPathsOnce, IsTop, items_along, children_at, child_item, is_after, is_before, IsThere, child_cmp, ComesAfter, HasNoneAfter, IsFirstAfter, that_pass}
+use Rattle.cap_tree.proofs.Prelude.{◌≡◌, ℕ, zero, suc, ◌+◌, ◌<◌, Bool, true, false, cond, List, [], ◌∷◌, ◌++◌, length, get_or, Option, Some, None, refl, sym, ◌∙◌, ap, arith, map, subst, drop, inl, inr, ◌⊎◌, IfSome, MatchOption, option_cmp, ordering_reverse, is_gt, is_lt, Ordering, Less, Equal, Greater, IsTotalOrder, options_total, cases_lt, option_filter, on_total, tied_itself, upto, get_or_default, IsIn, in_left, in_right, in_map, holds_of, dot, Spot, along, under, below, spots, item_at, HoldsOfItem, HasPathsOnce, IsTop, items_along, children_at, child_item, is_after, is_before, IsThere, child_cmp, ComesAfter, HasNoneAfter, IsFirstAfter, that_pass}
 use Rattle.cap_tree.proofs.Spots.{holds-within, item_at-spots}
 use Rattle.cap_tree.proofs.Looking.{along-below, along-root_below}
 

@@ -1,19 +1,5 @@
 -- The order of service, by the rows of a tree.
-use Rattle.std.proofs.Common.{◌≡◌, ℕ, Bool, true, false, cond, List, [], ◌∷◌, ◌++◌, Option, Some, None, refl, sym, ◌∙◌, ap, map, filter, subst, drop, inl, inr}
-use Rattle.std.specs.Prelude.{MatchOption, bytes_eq, option_map}
-use Rattle.std.specs.Option.{option_cmp}
-use Rattle.std.specs.Ordering.{on, ordering_then, is_gt}
-use Rattle.std.specs.declared.cmp.Ordering.{Ordering}
-use Rattle.std.specs.Cmp.Lexicographic.{slice_cmp}
-use Rattle.std.proofs.lemmas.List.{drop-map}
-use Rattle.std.proofs.lemmas.Slice.Eq.{bytes_eq-Decides}
-use Rattle.cap_vector.specs.Fullness.{shares}
-use Rattle.cap_base.specs.Levels.{Level, level_cmp}
-use Rattle.cap_base.proofs.lists.Members.{IsIn, each_of}
-use Rattle.cap_tree.specs.Spot.{along, item_at, HoldsOfItem, IsPosition}
-use Rattle.cap_tree.specs.Queue.{Queue}
-use Rattle.cap_tree.specs.Rows.{Row, AreRows, HasLastName, PositionsArePaths}
-use Rattle.cap_tree.specs.Service.{HasPathsOnce, HasNoneAfter, IsFirstAfter, IsThere, ComesAfter, child_cmp, children_at, child_levels, items_along, level_at, level_of_queue, level_of_row, levels_at, queue_cmp, row_at}
+use Rattle.cap_tree.proofs.Prelude.{◌≡◌, ℕ, Bool, true, false, cond, List, [], ◌∷◌, ◌++◌, Option, Some, None, refl, sym, ◌∙◌, ap, map, filter, subst, drop, inl, inr, MatchOption, bytes_eq, option_map, option_cmp, on, ordering_then, is_gt, Ordering, slice_cmp, drop-map, bytes_eq-Decides, shares, Level, level_cmp, IsIn, each_of, along, item_at, HoldsOfItem, IsPosition, Queue, Row, AreRows, HasLastName, PositionsArePaths, HasPathsOnce, HasNoneAfter, IsFirstAfter, IsThere, ComesAfter, child_cmp, children_at, child_levels, items_along, level_at, level_of_queue, level_of_row, levels_at, queue_cmp, row_at}
 use Rattle.cap_tree.proofs.RowPaths.{along_rows, same_row}
 
 pub rows_once : (rows : List Row) → PositionsArePaths rows → HasPathsOnce rows

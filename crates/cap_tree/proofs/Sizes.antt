@@ -1,8 +1,5 @@
 -- The parts of a tree of queues are no larger than memory, as the tree is.
-use Rattle.std.proofs.Common.{ℕ, ◌≡◌, ◌<◌, ◌^◌, List, [], ◌∷◌, arith, refl}
-use Rattle.std.specs.Borrow.{RattleType}
-use Rattle.std.specs.Mem.{FitsInMemory}
-use Rattle.std.specs.declared.alloc.Allocator.{Ghosts}
+use Rattle.cap_tree.proofs.Prelude.{ℕ, ◌≡◌, ◌<◌, ◌^◌, List, [], ◌∷◌, arith, refl, RattleType, FitsInMemory, Ghosts}
 use mathlib.Core.Option.{Option, some, none}
 use mir.Syntax.{Ty}
 use mir.Syntax.Ty.{ty_int, ty_bool, ty_float, ty_ptr, ty_ref, ty_array, ty_unit, ty_struct, ty_enum, ty_param, ty_const, ty_array_p, ty_named}

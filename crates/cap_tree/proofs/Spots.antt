@@ -1,10 +1,5 @@
 -- A position below child i leads into that child's spots, and a change along it changes those alone.
-use Rattle.std.proofs.Common.{◌≡◌, ℕ, zero, suc, ◌+◌, ◌-◌, ◌≤◌, ◌<◌, Bool, true, false, cond, eqb, List, [], ◌∷◌, ◌++◌, length, get_or, set, Some, None, refl, sym, ◌∙◌, ap, arith, map, ◌≢◌, subst, take, drop, sum_by}
-use Rattle.std.proofs.lemmas.Bool.{eq-eqb, ne_eqb}
-use Rattle.std.proofs.lemmas.List.{map-append, get_or_default, take_all}
-use Rattle.std.proofs.lemmas.List.Sums.{sum_by-set, get_or-le-sum_by}
-use Rattle.std.specs.Prelude.{bytes_eq}
-use Rattle.cap_tree.specs.Spot.{Spot, leads_to, item_at, under, below, spots, change_along, HoldsOfItem}
+use Rattle.cap_tree.proofs.Prelude.{◌≡◌, ℕ, zero, suc, ◌+◌, ◌-◌, ◌≤◌, ◌<◌, Bool, true, false, cond, eqb, List, [], ◌∷◌, ◌++◌, length, get_or, set, Some, None, refl, sym, ◌∙◌, ap, arith, map, ◌≢◌, subst, take, drop, sum_by, eq-eqb, ne_eqb, map-append, get_or_default, take_all, sum_by-set, get_or-le-sum_by, bytes_eq, Spot, leads_to, item_at, under, below, spots, change_along, HoldsOfItem}
 
 -- a first step and the others, as code sees them
 pub rest-is : (i : ℕ) (p : List ℕ) → take (length (i ∷ p) - 1) (drop 1 (i ∷ p)) ≡ p

@@ -1,10 +1,5 @@
 -- The spots of a tree: where they are those of a tree still, and what an item's children are.
-use Rattle.std.proofs.Common.{◌≡◌, ℕ, ◌<◌, ◌≤◌, List, [], ◌∷◌, length, get_or, set, map, sym, ◌∙◌, subst, ap, arith, inl, inr}
-use Rattle.std.specs.List.{All}
-use Rattle.std.proofs.lemmas.Bool.{cases_eq}
-use Rattle.std.proofs.lemmas.List.{get_or-set_same, get_or-set_other, length-set}
-use Rattle.cap_tree.specs.Spot.{Spot, change_along, spots}
-use Rattle.cap_tree.specs.Branch.{AreSpots, of_tree}
+use Rattle.cap_tree.proofs.Prelude.{◌≡◌, ℕ, ◌<◌, ◌≤◌, List, [], ◌∷◌, length, get_or, set, map, sym, ◌∙◌, subst, ap, arith, inl, inr, All, cases_eq, get_or-set_same, get_or-set_other, length-set, Spot, change_along, spots, AreSpots, of_tree}
 use Rattle.cap_tree.proofs.Spots.{change-spots, change-spots_root}
 
 module _ {T : Type 0} (name : T → List ℕ) where

@@ -1,13 +1,5 @@
 -- The entries of users, copied one after the other.
-use Rattle.std.proofs.Common.{◌≡◌, ℕ, false, cond, List, [], ◌∷◌, ◌++◌, refl, sym, ◌∙◌, ap, subst, map}
-use Rattle.std.specs.Prelude.{bytes_eq}
-use Rattle.std.specs.List.{IsDistinct, AllByRecursion}
-use Rattle.std.specs.Map.{keys_of}
-use Rattle.std.proofs.lemmas.List.{append-nil, map-append}
-use Rattle.std.proofs.lemmas.Map.Keys.{IsDistinct-head, IsDistinct-tail}
-use Rattle.indexmap.specs.IndexMap.{insert_entry}
-use Rattle.cap_base.proofs.lists.Tests.{bytes_turned}
-use Rattle.cap_tree.specs.Count.{Count}
+use Rattle.cap_tree.proofs.Prelude.{◌≡◌, ℕ, false, cond, List, [], ◌∷◌, ◌++◌, refl, sym, ◌∙◌, ap, subst, map, bytes_eq, IsDistinct, AllByRecursion, keys_of, append-nil, map-append, IsDistinct-head, IsDistinct-tail, insert_entry, bytes_turned, Count}
 
 abbrev pub UserEntries : Type 0
 UserEntries = List (List ℕ × Count)

@@ -1,16 +1,6 @@
 -- What is counted of users, and the entries of the map that holds it.
-use Rattle.std.proofs.Common.{◌≡◌, ℕ, cond, List, [], ◌∷◌, Option, Some, None, refl, sym, ◌∙◌}
-use Rattle.std.specs.Prelude.{bytes_eq, if◌then◌else◌}
-use Rattle.std.specs.Map.{lookup}
-use Rattle.std.specs.Ordering.{nat_cmp}
-use Rattle.std.specs.Cmp.Lexicographic.{slice_cmp, nat_list_cmp_total}
-use Rattle.std.specs.FinMap.{from_entries, get-from_entries}
+use Rattle.cap_tree.proofs.Prelude.{◌≡◌, ℕ, cond, List, [], ◌∷◌, Option, Some, None, refl, sym, ◌∙◌, bytes_eq, if◌then◌else◌, lookup, nat_cmp, slice_cmp, nat_list_cmp_total, from_entries, get-from_entries, is_eq-slice_cmp, bytes_turned, Count, is_zero_count, Users, user_row, with_count, same_users, user_row-with_count}
 use Rattle.std.specs.FinMap.Entries.{find}
-use Rattle.std.proofs.lemmas.Map.Text.{is_eq-slice_cmp}
-use Rattle.cap_base.proofs.lists.Tests.{bytes_turned}
-use Rattle.cap_tree.specs.Count.{Count, is_zero_count}
-use Rattle.cap_tree.specs.Queue.{Users, user_row, with_count}
-use Rattle.cap_tree.specs.UserLaws.{same_users, user_row-with_count}
 
 -- the users of some entries
 

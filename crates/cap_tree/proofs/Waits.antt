@@ -1,19 +1,5 @@
 -- One more waits in a tree that a snapshot keeps: its marks and links.
-use Rattle.std.proofs.Common.{◌≡◌, ℕ, zero, suc, ◌+◌, ◌-◌, ◌<◌, ◌≤◌, Bool, true, false, cond, List, [], ◌∷◌, ◌++◌, length, get_or, set, map, drop, Option, Some, None, refl, sym, ◌∙◌, ap, subst, arith, inl, inr, ◌⊎◌}
-use Rattle.std.specs.Prelude.{◌==◌, ◌&&◌, if◌then◌else◌, bytes_eq, option_map}
-use Rattle.std.specs.List.{slice_get}
-use Rattle.std.specs.Option.{option_map_or}
-use Rattle.std.proofs.Math.Seq.{get_or-append_seam}
-use Rattle.std.proofs.lemmas.Bool.{cases_eq, cases_lt, eq-eqb, eqb-true, ne_eqb}
-use Rattle.std.proofs.lemmas.List.{get_or_append_left, get_or-set_other, get_or-set_same, length-append, length-set}
-use Rattle.std.proofs.lemmas.Option.{slice_get_within}
-use Rattle.std.proofs.lemmas.Slice.Eq.{bytes_eq-Decides}
-use Rattle.cap_base.specs.Cascade.{holds_of}
-use Rattle.cap_tree.specs.Queue.{Queue}
-use Rattle.cap_tree.specs.Rows.{Row, AreRows}
-use Rattle.cap_tree.specs.Seen.{IsFirstFrom, IsLast, IsSeenTree, SeenQueue, not_waiting, rows_seen, waiting_at, waiting_below}
-use Rattle.cap_tree.specs.Spot.{Spot, HoldsOfItem, IsPosition, change_along, item_at, leads_to, made_of}
-use Rattle.cap_tree.specs.Walk.{AreMarked, mark_at}
+use Rattle.cap_tree.proofs.Prelude.{◌≡◌, ℕ, zero, suc, ◌+◌, ◌-◌, ◌<◌, ◌≤◌, Bool, true, false, cond, List, [], ◌∷◌, ◌++◌, length, get_or, set, map, drop, Option, Some, None, refl, sym, ◌∙◌, ap, subst, arith, inl, inr, ◌⊎◌, ◌==◌, ◌&&◌, if◌then◌else◌, bytes_eq, option_map, slice_get, option_map_or, get_or-append_seam, cases_eq, cases_lt, eq-eqb, eqb-true, ne_eqb, get_or_append_left, get_or-set_other, get_or-set_same, length-append, length-set, slice_get_within, bytes_eq-Decides, holds_of, Queue, Row, AreRows, IsFirstFrom, IsLast, IsSeenTree, SeenQueue, not_waiting, rows_seen, waiting_at, waiting_below, Spot, HoldsOfItem, IsPosition, change_along, item_at, leads_to, made_of, AreMarked, mark_at}
 use Rattle.cap_tree.proofs.Copies.{change-made, item_at-made, made-back}
 use Rattle.cap_tree.proofs.RowPaths.{same_position}
 

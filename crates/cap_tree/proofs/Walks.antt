@@ -1,20 +1,5 @@
 -- What is served first or next in a tree, from what is so in its children.
-use Rattle.std.proofs.Common.{◌≡◌, ℕ, ◌<◌, ◌≤◌, Bool, true, false, List, [], ◌∷◌, ◌++◌, length, get_or, Option, Some, None, refl, sym, ◌∙◌, ap, subst, arith, map, drop, inl, inr, ◌⊎◌}
-use Rattle.std.specs.Prelude.{IfSome, MatchOption}
-use Rattle.std.specs.List.{All}
-use Rattle.std.specs.Option.{option_cmp, option_map_or}
-use Rattle.std.specs.Ordering.{ordering_reverse, ordering_then, is_gt}
-use Rattle.std.specs.declared.cmp.Ordering.{Ordering}
-use Rattle.std.specs.declared.cmp.Ordering.TheVariants.{Less, Equal, Greater}
-use Rattle.std.specs.Cmp.{IsTotalOrder}
-use Rattle.std.specs.Cmp.Lexicographic.{slice_cmp}
-use Rattle.std.proofs.lemmas.Cmp.{tied_itself}
-use Rattle.std.proofs.lemmas.List.{get_or_default}
-use Rattle.cap_base.specs.Cascade.{holds_of}
-use Rattle.cap_tree.specs.Branch.{AreSpots, of_tree}
-use Rattle.cap_tree.specs.Service.{HasNoneAfter, HasPathsOnce, IsFirstAfter, IsThere, IsTop, ComesAfter, child_cmp, children_at, items_along, that_pass}
-use Rattle.cap_tree.specs.Spot.{Spot, HoldsOfItem, IsPosition, along, below, item_at, spots}
-use Rattle.cap_tree.specs.Walk.{AreMarked, HasNoMarkAfter, HasNoMarkBelow, IsAfterChild, IsFirstMark, IsMarkAfter, IsMarkBelow, IsUpTo, IsUpToChild, mark_at, place_cmp}
+use Rattle.cap_tree.proofs.Prelude.{◌≡◌, ℕ, ◌<◌, ◌≤◌, Bool, true, false, List, [], ◌∷◌, ◌++◌, length, get_or, Option, Some, None, refl, sym, ◌∙◌, ap, subst, arith, map, drop, inl, inr, ◌⊎◌, IfSome, MatchOption, All, option_cmp, option_map_or, ordering_reverse, ordering_then, is_gt, Ordering, Less, Equal, Greater, IsTotalOrder, slice_cmp, tied_itself, get_or_default, holds_of, AreSpots, of_tree, HasNoneAfter, HasPathsOnce, IsFirstAfter, IsThere, IsTop, ComesAfter, child_cmp, children_at, items_along, that_pass, Spot, HoldsOfItem, IsPosition, along, below, item_at, spots, AreMarked, HasNoMarkAfter, HasNoMarkBelow, IsAfterChild, IsFirstMark, IsMarkAfter, IsMarkBelow, IsUpTo, IsUpToChild, mark_at, place_cmp}
 use Rattle.cap_tree.proofs.Service.{item_in_child, items_at_root, items_in_child, kids_apart, once_in_child, passing_there, top_of_child}
 use Rattle.cap_tree.proofs.Spots.{holds-within}
 

@@ -1,20 +1,5 @@
 -- The tests of limits, as code and as the model makes them.
-use Rattle.std.proofs.Common.{◌≡◌, ℕ, zero, suc, ◌*◌, ◌≤◌, Bool, true, false, List, [], ◌∷◌, Some, None, refl, sym, ◌∙◌, ap, subst, arith, inl, inr}
-use Rattle.std.specs.Prelude.{◌↔◌, ◌&&◌, IsTrue, Option, if◌then◌else◌, is_some, not}
-use Rattle.cap_vector.specs.Vector.{amount, amounts_exchanged, FitsTimes, IsWithin, sum_max}
-use Rattle.cap_vector.proofs.AmountLemmas.{amount-exchanged}
-use Rattle.std.specs.Option.{option_map_or}
-use Rattle.cap_base.specs.Cascade.{holds_of}
-use Rattle.cap_base.specs.Amounts.{fits, times}
-use Rattle.cap_base.specs.LimitTests.{fits_user_limit}
-use Rattle.cap_base.proofs.Amounts.{fits_amounts, amounts_fit}
-use Rattle.cap_tree.specs.Measure.{Measure}
-use Rattle.cap_tree.specs.Count.{use_alone}
-use Rattle.cap_tree.specs.Spot.{along, first_failing, item_at, path_at, IsPosition}
-use Rattle.cap_tree.specs.Queue.{Queue, stays_in_maximum, stays_in_user_limit}
-use Rattle.cap_tree.specs.Rows.{Row, HasRoomAtRoot, PositionsArePaths, root_use}
-use Rattle.cap_tree.specs.Limits.{broken_level, over_limit, stays_in_limits}
-use Rattle.cap_tree.specs.declared.over_limit.OverLimit.TheVariants.{Maximum, User}
+use Rattle.cap_tree.proofs.Prelude.{◌≡◌, ℕ, zero, suc, ◌*◌, ◌≤◌, Bool, true, false, List, [], ◌∷◌, Some, None, refl, sym, ◌∙◌, ap, subst, arith, inl, inr, ◌↔◌, ◌&&◌, IsTrue, Option, if◌then◌else◌, is_some, not, amount, amounts_exchanged, FitsTimes, IsWithin, sum_max, amount-exchanged, option_map_or, holds_of, fits, times, fits_user_limit, fits_amounts, amounts_fit, Measure, use_alone, along, first_failing, item_at, path_at, IsPosition, Queue, stays_in_maximum, stays_in_user_limit, Row, HasRoomAtRoot, PositionsArePaths, root_use, broken_level, over_limit, stays_in_limits, Maximum, User}
 use Rattle.cap_tree.proofs.RowPaths.{along_rows, none_fails}
 
 same_test : (b c : Bool) (P : Type 0) → IsTrue b ↔ P → (c ≡ true → P) → (P → c ≡ true) → b ≡ c

@@ -1,24 +1,8 @@
 -- Calls that are made, and what comes next.
-use Rattle.std.proofs.Common.{◌≡◌, ℕ, List, [], ◌∷◌, ◌++◌, Option, Some, None, refl, ap, sym, ◌∙◌, subst, append-nil, inl, inr}
-use Rattle.cap_base.specs.Limits.{resources}
-use Rattle.cap_model.specs.declared.request.Request.{Request}
-use Rattle.cap_model.specs.News.{Reply}
-use Rattle.cap_frames.specs.Stream.{frame_of}
-use Rattle.cap_grammar.specs.Spelling.{IsOfKind, kind_of, fault_reply}
-use Rattle.cap_session.specs.Answers.{Answers}
-use Rattle.cap_session.specs.Session.{SessionState, OpenRequest, Continues, NextGives, EndsNow, MayAnswer, SpellsAnswer, after_answer, with_answer}
-use Rattle.cap_session.specs.declared.session.SessionCause.{SessionCause}
+use Rattle.cap_workers.proofs.Prelude.{◌≡◌, ℕ, List, [], ◌∷◌, ◌++◌, Option, Some, None, refl, ap, sym, ◌∙◌, subst, append-nil, inl, inr, resources, Request, Reply, frame_of, IsOfKind, kind_of, fault_reply, Answers, SessionState, OpenRequest, Continues, NextGives, EndsNow, MayAnswer, SpellsAnswer, after_answer, with_answer, SessionCause, Next, continues_bad, continues_answer, HasMore, sitting, Moment, Noted, Sitting, pending_request, HaveReceipts, Serves, ServesAll, IsSealed, IsPause, IsCallMade}
 use Rattle.cap_session.specs.declared.session.SessionCause.TheVariants as causes
-use Rattle.cap_session.specs.declared.session.Next.{Next}
 use Rattle.cap_session.specs.declared.session.Next.TheVariants as nexts
-use Rattle.cap_session.proofs.Continuing.{continues_bad, continues_answer}
-use Rattle.cap_shared.specs.Calls.{HasMore}
-use Rattle.cap_shared.specs.WordRule.{sitting}
 use Rattle.cap_shared.specs.declared.history.NotedAnswer.TheVariants as answer
-use Rattle.cap_shared.specs.declared.history.Moment.{Moment}
-use Rattle.cap_shared.specs.declared.history.Moment.TheVariants.{Noted}
-use Rattle.cap_shared.specs.declared.history.Sitting.{Sitting}
-use Rattle.cap_workers.specs.Sessions.{pending_request, HaveReceipts, Serves, ServesAll, IsSealed, IsPause, IsCallMade}
 use Rattle.cap_workers.specs.declared.sessions.Pause.TheVariants as pauses
 use Rattle.cap_workers.proofs.Receipts.{serves_none, serves_quiet, serves_then, serves_noted}
 

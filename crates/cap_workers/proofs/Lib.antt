@@ -1,3 +1,4 @@
+mod Prelude
 mod Receipts
 mod Answering
 mod Streams

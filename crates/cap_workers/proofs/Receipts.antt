@@ -1,17 +1,5 @@
 -- Calls of a session, and the receipts of the seat that made them.
-use Rattle.std.proofs.Common.{◌≡◌, ℕ, List, [], ◌++◌, refl, ap, sym, ◌∙◌, append_assoc, append-nil, take, drop}
-use Rattle.std.proofs.lemmas.List.{take-append-drop}
-use Rattle.cap_base.specs.Limits.{resources}
-use Rattle.cap_session.specs.Answers.{Call}
-use Rattle.cap_session.specs.Counted.{sent_count}
-use Rattle.cap_session.specs.Session.{SessionState, Continues, all_answers, after_sent}
-use Rattle.cap_session.specs.declared.counted.Sent.{Sent}
-use Rattle.cap_session.proofs.Continuing.{continues_none, continues_then}
-use Rattle.cap_shared.specs.Calls.{HasMore}
-use Rattle.cap_shared.specs.WordRule.{sitting}
-use Rattle.cap_shared.specs.declared.history.Moment.{Moment}
-use Rattle.cap_shared.specs.declared.history.Sitting.{Sitting}
-use Rattle.cap_workers.specs.Sessions.{HaveReceipts, none_made, made, starved, Serves}
+use Rattle.cap_workers.proofs.Prelude.{◌≡◌, ℕ, List, [], ◌++◌, refl, ap, sym, ◌∙◌, append_assoc, append-nil, take, drop, take-append-drop, resources, Call, sent_count, SessionState, Continues, all_answers, after_sent, Sent, continues_none, continues_then, HasMore, sitting, Moment, Sitting, HaveReceipts, none_made, made, starved, Serves}
 
 pub receipts_then : {cs ds : List (Call resources)} {ms ns : List Moment} → HaveReceipts cs ms → HaveReceipts ds ns → HaveReceipts (cs ++ ds) (ms ++ ns)
 receipts_then none_made y = y

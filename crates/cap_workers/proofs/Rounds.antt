@@ -1,20 +1,9 @@
 -- A round of serving, and more of them.
-use Rattle.std.proofs.Math.Seq.{drop-length}
-use Rattle.std.proofs.Common.{◌≡◌, ℕ, List, [], ◌++◌, length, drop, Option, Some, None, refl, ap, sym, ◌∙◌, subst, inl, inr}
-use Rattle.cap_base.specs.Limits.{resources}
-use Rattle.cap_session.specs.Session.{SessionState, all_answers, after_sent, FeedGives}
-use Rattle.cap_session.specs.Counted.{StreamState}
-use Rattle.cap_model.specs.declared.request.Request.{Request}
-use Rattle.cap_session.specs.declared.counted.Sent.{Sent}
+use Rattle.cap_workers.proofs.Prelude.{drop-length, ◌≡◌, ℕ, List, [], ◌++◌, length, drop, Option, Some, None, refl, ap, sym, ◌∙◌, subst, inl, inr, resources, SessionState, all_answers, after_sent, FeedGives, StreamState, Request, Sent, SessionCause, continues_fed, Sitting, EndCause, Serves, IsAtRest, ServesAll, ServesToFault, IsServed, IsRound, IsSealed, IsWrittenOut, ReadsOn, GoesOn, writer_at, end_of}
 use Rattle.cap_session.specs.declared.counted.Sent.TheVariants as sents
-use Rattle.cap_session.specs.declared.session.SessionCause.{SessionCause}
 use Rattle.cap_session.specs.declared.session.SessionCause.TheVariants as causes
 use Rattle.cap_session.specs.declared.session.Fed.TheVariants as feds
-use Rattle.cap_session.proofs.Continuing.{continues_fed}
-use Rattle.cap_shared.specs.declared.history.Sitting.{Sitting}
-use Rattle.cap_workers.specs.declared.sessions.EndCause.{EndCause}
 use Rattle.cap_workers.specs.declared.sessions.EndCause.TheVariants as ends
-use Rattle.cap_workers.specs.Sessions.{Serves, IsAtRest, ServesAll, ServesToFault, IsServed, IsRound, IsSealed, IsWrittenOut, ReadsOn, GoesOn, writer_at, end_of}
 use Rattle.cap_workers.proofs.Receipts.{serves_quiet, serves_then, serves_as, serves_sent}
 
 at_rest_sent : (t : SessionState) (n : ℕ) → IsAtRest t → IsAtRest (after_sent t (sents.All n))

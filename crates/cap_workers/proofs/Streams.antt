@@ -1,12 +1,7 @@
 -- What readers gave and writers took, one time after the other.
-use Rattle.std.proofs.Common.{◌≡◌, ◌≢◌, ℕ, ◌+◌, ◌-◌, ◌^◌, List, [], ◌++◌, Option, Some, None, refl, ap, ap₂, sym, ◌∙◌, subst, append_assoc, append-nil, length, min, arith, length-append}
-use Rattle.std.specs.Io.KnownBytes.{Appends, Consumes}
-use Rattle.cap_session.specs.Counted.{StreamState, CanCount}
-use Rattle.cap_session.specs.declared.counted.Sent.{Sent}
+use Rattle.cap_workers.proofs.Prelude.{◌≡◌, ◌≢◌, ℕ, ◌+◌, ◌-◌, ◌^◌, List, [], ◌++◌, Option, Some, None, refl, ap, ap₂, sym, ◌∙◌, subst, append_assoc, append-nil, length, min, arith, length-append, Appends, Consumes, StreamState, CanCount, Sent, EndCause, IsRead, IsWritten, IsLost, after_reads, reader_at, writer_at, end_of}
 use Rattle.cap_session.specs.declared.counted.Sent.TheVariants as sents
-use Rattle.cap_workers.specs.declared.sessions.EndCause.{EndCause}
 use Rattle.cap_workers.specs.declared.sessions.EndCause.TheVariants as ends
-use Rattle.cap_workers.specs.Sessions.{IsRead, IsWritten, IsLost, after_reads, reader_at, writer_at, end_of}
 
 pub consumes_none : (u : Option (List ℕ)) → Consumes u u []
 consumes_none None = tt

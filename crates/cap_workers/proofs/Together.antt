@@ -1,25 +1,6 @@
 -- Calls that are made and answered together.
-use Rattle.std.proofs.Common.{◌≡◌, ℕ, ◌+◌, ◌<◌, List, [], ◌∷◌, ◌++◌, Some, None, refl, ap, ap₂, sym, ◌∙◌, subst, append_assoc, append-nil, length, take, zero, suc, slice_index_or, arith}
-use Rattle.std.proofs.Math.Seq.{take-length}
-use Rattle.std.proofs.lemmas.List.{length-map, map-append}
-use Rattle.cap_base.specs.Limits.{resources}
-use Rattle.cap_model.specs.declared.request.Request.{Request}
-use Rattle.cap_model.specs.News.{Reply}
-use Rattle.cap_grammar.specs.Spelling.{IsOfKind, kind_of}
-use Rattle.cap_session.specs.Answers.{Call}
-use Rattle.cap_session.specs.Batch.{BatchState, MayAnswerFirst, SpellsFirst, after_first, IsFirstOf, with_first_open}
-use Rattle.cap_session.specs.Ahead.{asked_requests}
-use Rattle.cap_session.specs.Session.{SessionState, OpenRequest, Continues, SpellsAnswer, all_answers, with_answer}
-use Rattle.cap_session.proofs.Continuing.{continues_none, continues_then, continues_answer}
-use Rattle.cap_shared.specs.Calls.{HasMore}
-use Rattle.cap_shared.specs.WordRule.{sitting}
-use Rattle.cap_shared.specs.declared.entry.Entry.{Entry}
+use Rattle.cap_workers.proofs.Prelude.{◌≡◌, ℕ, ◌+◌, ◌<◌, List, [], ◌∷◌, ◌++◌, Some, None, refl, ap, ap₂, sym, ◌∙◌, subst, append_assoc, append-nil, length, take, zero, suc, slice_index_or, arith, take-length, length-map, map-append, resources, Request, Reply, IsOfKind, kind_of, Call, BatchState, MayAnswerFirst, SpellsFirst, after_first, IsFirstOf, with_first_open, asked_requests, SessionState, OpenRequest, Continues, SpellsAnswer, all_answers, with_answer, continues_none, continues_then, continues_answer, HasMore, sitting, Entry, Moment, Noted, Sitting, pending_request, HaveReceipts, none_made, Serves, IsSealed, requests_of, replies_of, AreOfKind, none_asked, asked, CallsMade, IsAnsweredBy, AnsweredAll}
 use Rattle.cap_shared.specs.declared.history.NotedAnswer.TheVariants as answer
-use Rattle.cap_shared.specs.declared.history.Moment.{Moment}
-use Rattle.cap_shared.specs.declared.history.Moment.TheVariants.{Noted}
-use Rattle.cap_shared.specs.declared.history.Sitting.{Sitting}
-use Rattle.cap_workers.specs.Sessions.{pending_request, HaveReceipts, none_made, Serves, IsSealed}
-use Rattle.cap_workers.specs.Batches.{requests_of, replies_of, AreOfKind, none_asked, asked, CallsMade, IsAnsweredBy, AnsweredAll}
 use Rattle.cap_workers.proofs.Receipts.{has_none, receipts_then, serves_as}
 
 -- ---- calls

@@ -1,21 +1,7 @@
 -- What a turn chooses and commits.
-use Rattle.std.proofs.Common.{◌≡◌, ℕ, Option, Result, Ok, Err, ap, refl, ◌∙◌}
-use Rattle.std.specs.Prelude.{MatchResult}
-use Rattle.cap_base.specs.Limits.{resources}
-use Rattle.cap_model.specs.Admission.{NodeProposal}
-use Rattle.cap_model.specs.Candidates.{choice_from}
-use Rattle.cap_model.specs.Flat.{Flat}
-use Rattle.cap_model.specs.Sight.{Sight}
-use Rattle.cap_model.specs.declared.proposal.Verdict.{Verdict}
+use Rattle.cap_workers.proofs.Prelude.{◌≡◌, ℕ, Option, Result, Ok, Err, ap, refl, ◌∙◌, MatchResult, resources, NodeProposal, choice_from, Flat, Sight, Verdict, Seen, sight_in, Parts, sight_of_copy, same_choice, CommitAnswers, CommitsBack, CopyIs, CommitFault, Sitting, Chooses, IsCommitted, end_by}
 use Rattle.cap_model.specs.declared.proposal.Verdict.TheVariants as verdict
-use Rattle.cap_copy.specs.Snapshot.{Seen, sight_in}
-use Rattle.cap_copy.specs.Sources.{Parts, sight_of_copy}
-use Rattle.cap_sights.proofs.Alike.{same_choice}
-use Rattle.cap_shared.specs.Calls.{CommitAnswers, CommitsBack, CopyIs}
-use Rattle.cap_shared.specs.declared.faults.CommitFault.{CommitFault}
 use Rattle.cap_shared.specs.declared.faults.CommitFault.TheVariants as fault
-use Rattle.cap_shared.specs.declared.history.Sitting.{Sitting}
-use Rattle.cap_workers.specs.Worker.{Chooses, IsCommitted, end_by}
 
 -- the choice on what is arranged of a copy is that of the cluster of its note
 pub chosen_on : {opening : Flat resources} {old new : Sitting} (copied : Parts) (snapshot : Seen) {choice : Option NodeProposal} (start : ℕ) → sight_in resources snapshot ≡ sight_of_copy resources copied → CopyIs opening old new (sight_of_copy resources copied) →

@@ -1,29 +1,9 @@
 -- What each connection heard of the steps that were made, and what it was answered for it.
-use Rattle.std.proofs.Common.{◌≡◌, ◌≢◌, ℕ, ◌+◌, ◌<◌, Bool, true, false, List, [], ◌∷◌, ◌++◌, length, get_or, take, Option, Some, None, Ok, IsSome, refl, sym, ap, subst, ◌∙◌, append_assoc, append-nil, inl, inr, ◌⊎◌}
-use Rattle.std.specs.Prelude.{◌==◌, if◌then◌else◌, MatchBool}
-use Rattle.std.proofs.lemmas.Bool.{cases_Bool, eqb-true}
-use Rattle.std.proofs.lemmas.List.{take_more}
-use Rattle.cap_base.specs.Limits.{resources}
-use Rattle.cap_model.specs.declared.event.Event.{Event}
-use Rattle.cap_model.specs.Flat.{Flat}
-use Rattle.cap_frames.specs.Stream.{rest, fault, IsStream, IsBytes}
-use Rattle.cap_frames.proofs.Streams.{stream_goes_on}
-use Rattle.cap_world.specs.declared.connection.Standing.{Standing}
+use Rattle.cap_world.proofs.Prelude.{◌≡◌, ◌≢◌, ℕ, ◌+◌, ◌<◌, Bool, true, false, List, [], ◌∷◌, ◌++◌, length, get_or, take, Option, Some, None, Ok, IsSome, refl, sym, ap, subst, ◌∙◌, append_assoc, append-nil, inl, inr, ◌⊎◌, ◌==◌, if◌then◌else◌, MatchBool, cases_Bool, eqb-true, take_more, resources, Event, Flat, rest, fault, IsStream, IsBytes, stream_goes_on, Standing, Step, Did, SessionCause, Call, SessionState, AnswersBy, IsSession, AnswersSome, Connection, new_connection, is_open_standing, AnswersAs, HasAnswers, Feeds, StandsAfter, WorldState, connection_at, is_open, is_open_connection, output_of, output_from, Changes, HasAnswersAt, StepOutcome, Starves, Hearing, unopened, live, over, opened, ended, HearsPiece, HearsStep, Hears, IsHeard, IsCutShort, IsHeardBefore}
 use Rattle.cap_world.specs.declared.connection.Standing.TheVariants as standings
-use Rattle.cap_world.specs.declared.step.Step.{Step}
 use Rattle.cap_world.specs.declared.step.Step.TheVariants as steps
-use Rattle.cap_world.specs.declared.step.Did.{Did}
 use Rattle.cap_world.specs.declared.step.Did.TheVariants as dids
-use Rattle.cap_session.specs.declared.session.SessionCause.{SessionCause}
 use Rattle.cap_session.specs.declared.session.SessionCause.TheVariants as causes
-use Rattle.cap_session.specs.Answers.{Call}
-use Rattle.cap_session.specs.Session.{SessionState, AnswersBy, IsSession}
-use Rattle.cap_world.specs.Answers.{AnswersSome}
-use Rattle.cap_world.specs.Connection.{Connection, new_connection, is_open_standing, AnswersAs, HasAnswers}
-use Rattle.cap_world.specs.Serving.{Feeds, StandsAfter}
-use Rattle.cap_world.specs.World.{WorldState, connection_at, is_open, is_open_connection, output_of, output_from, Changes, HasAnswersAt}
-use Rattle.cap_world.specs.Steps.{StepOutcome, Starves}
-use Rattle.cap_world.specs.Hearing.{Hearing, unopened, live, over, opened, ended, HearsPiece, HearsStep, Hears, IsHeard, IsCutShort, IsHeardBefore}
 
 abbrev IsOver : Standing → Type 0
 IsOver standings.Open = ⊥

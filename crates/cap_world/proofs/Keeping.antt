@@ -1,15 +1,5 @@
 -- What the world keeps for contracts alone goes on with each step.
-use Rattle.std.proofs.Common.{◌≡◌, ℕ, List, [], ◌∷◌, ◌++◌, length, drop, Result, refl, sym, ap, subst, ◌∙◌, append-nil, drop_at}
-use Rattle.std.specs.Global.{Vec}
-use Rattle.std.proofs.lemmas.List.Concat.{flat_map-append}
-use Rattle.cap_base.specs.Limits.{resources}
-use Rattle.cap_model.specs.declared.event.Event.{Event}
-use Rattle.cap_model.specs.Flat.{Flat}
-use Rattle.cap_world.specs.declared.step.Step.{Step}
-use Rattle.cap_world.specs.declared.step.Did.{Did}
-use Rattle.cap_base.specs.declared.no_memory.NoMemory.{NoMemory}
-use Rattle.cap_world.specs.World.{WorldState, Known, Adds, IsLawful, events_of}
-use Rattle.cap_world.specs.Steps.{StepOutcome}
+use Rattle.cap_world.proofs.Prelude.{◌≡◌, ℕ, List, [], ◌∷◌, ◌++◌, length, drop, Result, refl, sym, ap, subst, ◌∙◌, append-nil, drop_at, Vec, flat_map-append, resources, Event, Flat, Step, Did, NoMemory, WorldState, Known, Adds, IsLawful, events_of, StepOutcome}
 use Rattle.cap_world.proofs.Lawful.{outcome_goes}
 
 events_more : (entries : List (Vec (Event resources) × ℕ)) (v : Vec (Event resources)) (before more : List (Event resources)) → v.items ≡ before ++ more → events_of (entries ++ (v, length before) ∷ []) ≡ events_of entries ++ more

@@ -1,31 +1,9 @@
 -- Each step keeps what is said of a world and its past.
-use Rattle.std.proofs.Common.{◌≡◌, ℕ, false, List, [], ◌∷◌, ◌++◌, Some, Result, Ok, Err, refl, sym, ap, subst, ◌∙◌, append-nil, inl, inr}
-use Rattle.std.specs.Prelude.{◌==◌}
-use Rattle.std.proofs.lemmas.Bool.{cases_Bool, eqb-true, eq-eqb}
-use Rattle.std.proofs.lemmas.List.Elements.{filter_map-append, All-nil}
-use Rattle.cap_base.specs.Limits.{resources}
-use Rattle.cap_model.specs.declared.event.Event.{Event}
-use Rattle.cap_model.specs.declared.proposal.Verdict.{Verdict}
+use Rattle.cap_world.proofs.Prelude.{◌≡◌, ℕ, false, List, [], ◌∷◌, ◌++◌, Some, Result, Ok, Err, refl, sym, ap, subst, ◌∙◌, append-nil, inl, inr, ◌==◌, cases_Bool, eqb-true, eq-eqb, filter_map-append, All-nil, resources, Event, Verdict, NodeProposal, Flat, IsOf, IsVerdict, rest, IsStream, IsPayload, IsBytes, written_is_read, Standing, Step, Did, NoMemory, nothing, Call, call_by, calls_by, as_events, Connection, new_connection, AnswersAs, HasAnswers, Feeds, WorldState, connection_at, Changes, HasAnswersAt, IsLawful, made_by, Fed, StepOutcome}
 use Rattle.cap_model.specs.declared.proposal.Verdict.TheVariants as verdicts
-use Rattle.cap_model.specs.Admission.{NodeProposal}
-use Rattle.cap_model.specs.Flat.{Flat}
-use Rattle.cap_model.specs.Verdicts.{IsOf, IsVerdict}
-use Rattle.cap_frames.specs.Stream.{rest, IsStream, IsPayload, IsBytes}
-use Rattle.cap_frames.proofs.Streams.{written_is_read}
-use Rattle.cap_world.specs.declared.connection.Standing.{Standing}
 use Rattle.cap_world.specs.declared.connection.Standing.TheVariants as standings
-use Rattle.cap_world.specs.declared.step.Step.{Step}
 use Rattle.cap_world.specs.declared.step.Step.TheVariants as steps
-use Rattle.cap_world.specs.declared.step.Did.{Did}
 use Rattle.cap_world.specs.declared.step.Did.TheVariants as dids
-use Rattle.cap_base.specs.declared.no_memory.NoMemory.{NoMemory}
-use Rattle.cap_session.specs.Answers.{nothing, Call}
-use Rattle.cap_world.specs.Answers.{call_by, calls_by, as_events}
-use Rattle.cap_world.specs.Connection.{Connection, new_connection, AnswersAs, HasAnswers}
-use Rattle.cap_world.specs.Serving.{Feeds}
-use Rattle.cap_world.specs.World.{WorldState, connection_at, Changes, HasAnswersAt, IsLawful}
-use Rattle.cap_world.specs.Working.{made_by}
-use Rattle.cap_world.specs.Steps.{Fed, StepOutcome}
 use Rattle.cap_world.proofs.ServedRequests.{run_more, answered_more}
 
 -- Whatever run has led to old, with what a step adds leads to new.

@@ -1,3 +1,4 @@
+mod Prelude
 mod ServedRequests
 mod Starving
 mod Tables

@@ -1,18 +1,5 @@
 -- What is said of a run after some steps.
-use Rattle.std.proofs.Common.{◌≡◌, ℕ, ◌<◌, ◌+◌, List, [], ◌∷◌, ◌++◌, length, get_or, take, Result, Ok, Err, true, false, is_err, refl, sym, ap, subst, ◌∙◌, arith}
-use Rattle.std.proofs.lemmas.List.{take_all, take_more}
-use Rattle.std.proofs.lemmas.Option.{slice_get_past, slice_get-get_or}
-use Rattle.cap_base.specs.Limits.{resources}
-use Rattle.cap_model.specs.declared.event.Event.{Event}
-use Rattle.cap_model.specs.Flat.{Flat}
-use Rattle.cap_world.specs.declared.step.Step.{Step}
-use Rattle.cap_world.specs.declared.step.Did.{Did}
-use Rattle.cap_base.specs.declared.no_memory.NoMemory.{NoMemory}
-use Rattle.cap_world.specs.Answers.{calls_by}
-use Rattle.cap_world.specs.World.{Known, WorldState, IsWorld, IsLawful, connection_at, is_open, output_of, Adds, start}
-use Rattle.cap_world.specs.Steps.{StepOutcome}
-use Rattle.cap_world.specs.Making.{Makes, IsMade, MadeStepsHaveTheHeadline}
-use Rattle.cap_world.specs.Hearing.{Hearing, unopened, Hears, IsHeadline}
+use Rattle.cap_world.proofs.Prelude.{◌≡◌, ℕ, ◌<◌, ◌+◌, List, [], ◌∷◌, ◌++◌, length, get_or, take, Result, Ok, Err, true, false, is_err, refl, sym, ap, subst, ◌∙◌, arith, take_all, take_more, slice_get_past, slice_get-get_or, resources, Event, Flat, Step, Did, NoMemory, calls_by, Known, WorldState, IsWorld, IsLawful, connection_at, is_open, output_of, Adds, start, StepOutcome, Makes, IsMade, MadeStepsHaveTheHeadline, Hearing, unopened, Hears, IsHeadline}
 use Rattle.cap_world.proofs.Heard.{Agrees, HeardSoFar, hears_done, is_heard, heard_starved}
 use Rattle.cap_world.proofs.Lawful.{outcome_goes}
 

@@ -1,28 +1,9 @@
 -- Requests are answered one after the other.
-use Rattle.std.proofs.Common.{◌≡◌, ℕ, List, [], ◌∷◌, ◌++◌, Option, Some, None, refl, sym, ap, subst, ◌∙◌, append_assoc, append-nil, inl, inr}
-use Rattle.std.proofs.lemmas.List.{map-append}
-use Rattle.cap_base.specs.Limits.{resources}
-use Rattle.cap_model.specs.declared.request.Request.{Request}
-use Rattle.cap_model.specs.News.{Reply}
-use Rattle.cap_model.specs.declared.event.Event.{Event}
-use Rattle.cap_model.specs.Flat.{Flat}
-use Rattle.cap_model.specs.Replies.{Replies}
-use Rattle.cap_model.specs.Events.{Run}
-use Rattle.cap_frames.specs.Stream.{frame_of, fault, IsBytes}
-use Rattle.cap_grammar.specs.Spelling.{fault_reply}
-use Rattle.cap_session.specs.declared.session.SessionCause.{SessionCause}
+use Rattle.cap_world.proofs.Prelude.{◌≡◌, ℕ, List, [], ◌∷◌, ◌++◌, Option, Some, None, refl, sym, ap, subst, ◌∙◌, append_assoc, append-nil, inl, inr, map-append, resources, Request, Reply, Event, Flat, Replies, Run, frame_of, fault, IsBytes, fault_reply, SessionCause, Call, Answers, nothing, IsAnswered, SessionState, OpenRequest, Continues, IsSession, AnswersBy, all_answers, open_payload, FeedGives, NextGives, EndsNow, SpellsAnswer, with_answer, after_answer, answers_open, answers_unless, continues_none, continues_then, continues_bad, continues_answer, continues_fed, Standing, as_events, call_event, Connection, AnswersAs, HasAnswers, Serves, StandsAfter, IsServed, Feeds, standing_of}
 use Rattle.cap_session.specs.declared.session.SessionCause.TheVariants as causes
 use Rattle.cap_session.specs.declared.session.Fed.TheVariants as feds
 use Rattle.cap_session.specs.declared.session.Next.TheVariants as nexts
-use Rattle.cap_session.specs.Answers.{Call, Answers, nothing, IsAnswered}
-use Rattle.cap_session.specs.Session.{SessionState, OpenRequest, Continues, IsSession, AnswersBy, all_answers, open_payload, FeedGives, NextGives, EndsNow, SpellsAnswer, with_answer, after_answer}
-use Rattle.cap_session.proofs.Answering.{answers_open, answers_unless}
-use Rattle.cap_session.proofs.Continuing.{continues_none, continues_then, continues_bad, continues_answer, continues_fed}
-use Rattle.cap_world.specs.declared.connection.Standing.{Standing}
 use Rattle.cap_world.specs.declared.connection.Standing.TheVariants as standings
-use Rattle.cap_world.specs.Answers.{as_events, call_event}
-use Rattle.cap_world.specs.Connection.{Connection, AnswersAs, HasAnswers}
-use Rattle.cap_world.specs.Serving.{Serves, StandsAfter, IsServed, Feeds, standing_of}
 
 pub run_more : (es fs : List (Event resources)) (a b c : Flat resources) → Run a es b → Run b fs c → Run a (es ++ fs) c
 run_more [] fs a b c e run = subst (λ (x : Flat resources). Run x fs c) (sym e) run

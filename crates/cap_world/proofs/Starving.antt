@@ -1,16 +1,6 @@
 -- What is said of a commit that changed nothing.
-use Rattle.std.proofs.Common.{◌≡◌, ℕ, List, Result, Err, sym, subst}
-use Rattle.cap_base.specs.Limits.{resources}
-use Rattle.cap_model.specs.declared.event.Event.{Event}
-use Rattle.cap_base.specs.declared.no_memory.NoMemory.{NoMemory}
-use Rattle.cap_model.specs.Flat.{Flat}
+use Rattle.cap_world.proofs.Prelude.{◌≡◌, ℕ, List, Result, Err, sym, subst, resources, Event, NoMemory, Flat, Did, Connection, WorkerState, WorldState, WouldBeMade, StepOutcome}
 use Rattle.cap_world.specs.declared.step.Step.TheVariants as steps
-use Rattle.cap_world.specs.declared.step.Did.{Did}
-use Rattle.cap_world.specs.Connection.{Connection}
-use Rattle.cap_world.specs.Worker.{WorkerState}
-use Rattle.cap_world.specs.World.{WorldState}
-use Rattle.cap_world.specs.Working.{WouldBeMade}
-use Rattle.cap_world.specs.Steps.{StepOutcome}
 
 -- the same cluster and the same workers
 pub same_workers : (new old : Flat resources) (connections : List (ℕ × Connection)) (is was : List (ℕ × WorkerState)) → new ≡ old → is ≡ was

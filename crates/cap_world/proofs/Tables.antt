@@ -1,7 +1,5 @@
 -- A table in which nothing was written.
-use Rattle.std.proofs.Common.{◌≡◌, Bool, List, [], ◌∷◌, Some, refl, sym, ap, inl, inr}
-use Rattle.std.specs.Map.{lookup, set_value}
-use Rattle.std.proofs.lemmas.Bool.{cases_Bool}
+use Rattle.cap_world.proofs.Prelude.{◌≡◌, Bool, List, [], ◌∷◌, Some, refl, sym, ap, inl, inr, lookup, set_value, cases_Bool}
 
 -- the value that was found is written back
 pub set_value_same : {K X : Type 0} (test : K → Bool) (es : List (K × X)) (w : X) → lookup test es ≡ Some w → set_value test es w ≡ es

@@ -1,34 +1,9 @@
 -- What the steps of workers come to.
-use Rattle.std.proofs.Common.{◌≡◌, ℕ, ◌<◌, ◌≤◌, false, List, [], ◌∷◌, ◌++◌, Option, Some, None, Result, Ok, Err, refl, sym, ap, subst, ◌∙◌, append-nil, inl, inr, arith}
-use Rattle.std.specs.Prelude.{◌==◌}
-use Rattle.std.specs.List.{AllByRecursion}
-use Rattle.std.proofs.lemmas.Bool.{cases_Bool, eqb-true, eq-eqb}
-use Rattle.cap_base.specs.Limits.{resources}
-use Rattle.cap_model.specs.declared.event.Event.{Event}
-use Rattle.cap_base.specs.declared.no_memory.NoMemory.{NoMemory}
-use Rattle.cap_model.specs.declared.proposal.Verdict.{Verdict}
+use Rattle.cap_world.proofs.Prelude.{◌≡◌, ℕ, ◌<◌, ◌≤◌, false, List, [], ◌∷◌, ◌++◌, Option, Some, None, Result, Ok, Err, refl, sym, ap, subst, ◌∙◌, append-nil, inl, inr, arith, ◌==◌, AllByRecursion, cases_Bool, eqb-true, eq-eqb, resources, Event, NoMemory, Verdict, Flat, Sight, NodeSight, sight_of, NodeProposal, IsAdmissible, reason_of, IsFirstChoice, ring_from, choice_from, IsOf, IsVerdict, choice_from_is_computed, rejected_exactly, Seen, sight_in, Step, Did, WorkerState, workers_max, with_copy, with_verdict, WorldState, worker_at, choice_in, verdict_in, choice_of, verdict_of, Changes, Copied, made_by, StepOutcome, Makes, QuietStepsMakeNoEvent, IsExact, CommitsAreExact, IsNoCopy, ProposalsAreOfCopies, IsMadeOf, CopiedChoicesAreMade, same_choice}
 use Rattle.cap_model.specs.declared.proposal.Verdict.TheVariants as verdicts
-use Rattle.cap_model.specs.Flat.{Flat}
-use Rattle.cap_model.specs.Sight.{Sight, NodeSight, sight_of}
-use Rattle.cap_model.specs.Admission.{NodeProposal, IsAdmissible, reason_of}
-use Rattle.cap_model.specs.Choice.{IsFirstChoice, ring_from}
-use Rattle.cap_model.specs.Candidates.{choice_from}
 use Rattle.cap_model.specs.Events.{Step as ClusterStep}
-use Rattle.cap_model.specs.Verdicts.{IsOf, IsVerdict}
-use Rattle.cap_laws.proofs.choice.Choosing.{choice_from_is_computed}
-use Rattle.cap_laws.proofs.choice.Reasons.{rejected_exactly}
-use Rattle.cap_copy.specs.Snapshot.{Seen, sight_in}
-use Rattle.cap_world.specs.declared.step.Step.{Step}
 use Rattle.cap_world.specs.declared.step.Step.TheVariants as steps
-use Rattle.cap_world.specs.declared.step.Did.{Did}
 use Rattle.cap_world.specs.declared.step.Did.TheVariants as dids
-use Rattle.cap_world.specs.Worker.{WorkerState, workers_max, with_copy, with_verdict}
-use Rattle.cap_world.specs.World.{WorldState, worker_at, choice_in, verdict_in, choice_of, verdict_of, Changes}
-use Rattle.cap_world.specs.Working.{Copied, made_by}
-use Rattle.cap_world.specs.Steps.{StepOutcome}
-use Rattle.cap_world.specs.Making.{Makes}
-use Rattle.cap_world.specs.WorkerLaws.{QuietStepsMakeNoEvent, IsExact, CommitsAreExact, IsNoCopy, ProposalsAreOfCopies, IsMadeOf, CopiedChoicesAreMade}
-use Rattle.cap_sights.proofs.Alike.{same_choice}
 
 -- ---- steps without events
 

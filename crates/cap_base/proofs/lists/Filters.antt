@@ -1,7 +1,5 @@
 -- What a filter keeps, and what is found in a mapped list.
-use Rattle.std.proofs.Common.{◌≡◌, ◌≤◌, length, arith, Bool, true, false, List, [], ◌∷◌, refl, sym, ◌∙◌, ap, inl, inr}
-use Rattle.std.specs.Prelude.{Some, option_map, cond, filter, find, map}
-use Rattle.std.proofs.lemmas.List.Sums.{length-filter, count_by-le-length}
+use Rattle.cap_base.proofs.Prelude.{◌≡◌, ◌≤◌, length, arith, Bool, true, false, List, [], ◌∷◌, refl, sym, ◌∙◌, ap, inl, inr, Some, option_map, cond, filter, find, map, length-filter, count_by-le-length}
 use Rattle.cap_base.proofs.lists.Members.{IsIn}
 
 pub filter_same : {A : Type 0} (f g : A → Bool) (xs : List A) → ((x : A) → IsIn x xs → f x ≡ g x) → filter f xs ≡ filter g xs

@@ -1,9 +1,5 @@
 -- Members of a list.
-use Rattle.std.proofs.Common.{◌≡◌, Bool, true, false, List, [], ◌∷◌, ◌++◌, refl, sym, ◌∙◌, ap, subst, inl, inr}
-use Rattle.std.specs.Prelude.{◌⊎◌, Option, Some, cond, filter, find, flat_map, map, unwrap_or}
-use Rattle.std.specs.List.{All, AllByRecursion, list_all, list_any}
-use Rattle.std.proofs.lemmas.Bool.{and_parts}
-use Rattle.std.proofs.lemmas.List.Elements.{All-from_recursion, recursion_from_All}
+use Rattle.cap_base.proofs.Prelude.{◌≡◌, Bool, true, false, List, [], ◌∷◌, ◌++◌, refl, sym, ◌∙◌, ap, subst, inl, inr, ◌⊎◌, Option, Some, cond, filter, find, flat_map, map, unwrap_or, All, AllByRecursion, list_all, list_any, and_parts, All-from_recursion, recursion_from_All}
 use Rattle.cap_base.proofs.lists.Tests.{or_left, or_right}
 pub use Rattle.cap_base.specs.Members.{IsIn}
 

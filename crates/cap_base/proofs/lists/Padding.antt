@@ -1,10 +1,5 @@
 -- A text in an array that is filled up with zeros.
-use Rattle.std.proofs.Common.{◌≡◌, ℕ, ◌-◌, ◌<◌, ◌≤◌, List, length, get_or, take, true, refl, sym, ap, ◌∙◌, arith, inl, inr}
-use Rattle.std.specs.Prelude.{replicate}
-use Rattle.std.proofs.lemmas.Bool.{cases_lt}
-use Rattle.std.proofs.lemmas.List.{ext_get_or, get_or-append_right, get_or_append_left, get_or-replicate, length-append, length-replicate, take_at}
-use Rattle.std.proofs.lemmas.Bool.Decides.{nat_tests}
-use Rattle.cap_base.specs.Texts.{is_text, padded_text, IsStored}
+use Rattle.cap_base.proofs.Prelude.{◌≡◌, ℕ, ◌-◌, ◌<◌, ◌≤◌, List, length, get_or, take, true, refl, sym, ap, ◌∙◌, arith, inl, inr, replicate, cases_lt, ext_get_or, get_or-append_right, get_or_append_left, get_or-replicate, length-append, length-replicate, take_at, nat_tests, is_text, padded_text, IsStored}
 
 -- how far a text was copied into an array of zeros
 pub record IsCopied (n : ℕ) (text array : List ℕ) : Type 0 where

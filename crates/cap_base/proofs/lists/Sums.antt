@@ -1,8 +1,5 @@
 -- Sums and counts over lists.
-use Rattle.std.proofs.Common.{◌≡◌, ℕ, ◌+◌, Bool, true, false, List, [], ◌∷◌, ◌++◌, refl, sym, ◌∙◌, ap, inl, inr, arith}
-use Rattle.std.specs.Prelude.{◌&&◌, cond, count_by, filter, map}
-use Rattle.std.specs.List.{sum_by}
-use Rattle.std.proofs.lemmas.List.Sums.{sum_by-cons, sum_by-append}
+use Rattle.cap_base.proofs.Prelude.{◌≡◌, ℕ, ◌+◌, Bool, true, false, List, [], ◌∷◌, ◌++◌, refl, sym, ◌∙◌, ap, inl, inr, arith, ◌&&◌, cond, count_by, filter, map, sum_by, sum_by-cons, sum_by-append}
 use Rattle.cap_base.proofs.lists.Members.{IsIn}
 
 abbrev pub one_where : Bool → ℕ

@@ -1,9 +1,5 @@
 -- Boolean tests and options.
-use Rattle.std.proofs.Common.{◌≡◌, ℕ, List, sym, ap, arith, Bool, true, false, refl, inl, inr}
-use Rattle.std.specs.Prelude.{◌⊎◌, ◌&&◌, ◌==◌, bytes_eq, unwrap_or, ◌||◌, Option, Some, None, IsSome, is_some, is_none, option_map, cond, not}
-use Rattle.std.proofs.lemmas.Bool.{not-false}
-use Rattle.std.proofs.lemmas.Bool.Decides.{nat_tests}
-use Rattle.std.proofs.lemmas.Slice.Eq.{bytes_eq-Decides}
+use Rattle.cap_base.proofs.Prelude.{◌≡◌, ℕ, List, sym, ap, arith, Bool, true, false, refl, inl, inr, ◌⊎◌, ◌&&◌, ◌==◌, bytes_eq, unwrap_or, ◌||◌, Option, Some, None, IsSome, is_some, is_none, option_map, cond, not, not-false, nat_tests, bytes_eq-Decides}
 
 pub or_left : (a b : Bool) → a || b ≡ false → a ≡ false
 or_left true b h = absurd (cc h)

@@ -1,15 +1,5 @@
 -- The queues from the root down to a leaf stand in order of level.
-use Rattle.std.proofs.Common.{◌≡◌, ℕ, zero, suc, ◌+◌, ◌≤◌, ◌<◌, Bool, true, false, List, [], ◌∷◌, ◌++◌, refl, sym, ◌∙◌, ap, subst, inl, inr, arith}
-use Rattle.std.specs.Prelude.{◌⊎◌, IsSome, cond, ◌==◌, filter, find, map, bytes_eq}
-use Rattle.std.specs.List.{range_with_len}
-use Rattle.std.proofs.lemmas.Bool.Decides.{nat_tests}
-use Rattle.std.proofs.lemmas.Slice.Eq.{bytes_eq-Decides}
-use Rattle.std.proofs.lemmas.List.Sums.{sum_by-cons, sum_by-append}
-use Rattle.cap_base.specs.Settings.{QueueRow}
-use Rattle.cap_base.specs.Paths.{is_under}
-use Rattle.cap_base.specs.Members.{IsRising}
-use Rattle.cap_base.specs.Trees.{StandBelow, depth}
-use Rattle.cap_base.specs.PathLaws.{LevelsInOrder}
+use Rattle.cap_base.proofs.Prelude.{◌≡◌, ℕ, zero, suc, ◌+◌, ◌≤◌, ◌<◌, Bool, true, false, List, [], ◌∷◌, ◌++◌, refl, sym, ◌∙◌, ap, subst, inl, inr, arith, ◌⊎◌, IsSome, cond, ◌==◌, filter, find, map, bytes_eq, range_with_len, nat_tests, bytes_eq-Decides, sum_by-cons, sum_by-append, QueueRow, is_under, IsRising, StandBelow, depth, LevelsInOrder}
 use Rattle.cap_base.proofs.lists.Members.{IsIn, in_filter, found, each_of, in_map, none_in}
 use Rattle.cap_base.proofs.lists.Sums.{one_where}
 use Rattle.cap_base.proofs.lists.Tests.{value_of, or_left, or_right}

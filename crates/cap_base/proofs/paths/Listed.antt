@@ -1,15 +1,6 @@
 -- In a list of queues from the root each queue stands before those under it.
-use Rattle.std.proofs.Common.{◌≡◌, ℕ, ◌+◌, true, false, List, [], ◌∷◌, ◌++◌, append_assoc, refl, sym, ◌∙◌, ap, subst, inl, inr, arith}
-use Rattle.std.specs.Prelude.{◌⊎◌, bytes_eq}
-use Rattle.std.specs.List.{list_any}
-use Rattle.std.proofs.lemmas.Slice.Eq.{bytes_eq-Decides}
-use Rattle.cap_base.specs.Settings.{QueueRow}
-use Rattle.cap_base.specs.Paths.{is_under, is_child_of, name_of, root_path}
-use Rattle.cap_base.specs.Trees.{HasDistinctPaths, StandBelow, depth}
-use Rattle.cap_base.specs.Listing.{IsListed, IsListedFromRoot}
-use Rattle.cap_base.specs.PathLaws.{ListingsStandBelow}
+use Rattle.cap_base.proofs.Prelude.{◌≡◌, ℕ, ◌+◌, true, false, List, [], ◌∷◌, ◌++◌, append_assoc, refl, sym, ◌∙◌, ap, subst, inl, inr, arith, ◌⊎◌, bytes_eq, list_any, bytes_eq-Decides, QueueRow, is_under, is_child_of, name_of, root_path, HasDistinctPaths, StandBelow, depth, IsListed, IsListedFromRoot, ListingsStandBelow, or_from, cases_Bool}
 use Rattle.cap_base.proofs.lists.Tests.{or_left, or_right}
-use Rattle.std.proofs.lemmas.Bool.{or_from, cases_Bool}
 use Rattle.cap_base.proofs.paths.Paths.{IsUnder, under_is, name_has_none}
 use Rattle.cap_base.proofs.paths.Levels.{below_is_deeper, comparable, no_levels}
 

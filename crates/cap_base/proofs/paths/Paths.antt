@@ -1,17 +1,6 @@
 -- Dotted paths: what is under what, and the names of children.
-use Rattle.std.proofs.Common.{◌≡◌, ℕ, ◌+◌, Bool, true, false, List, [], ◌∷◌, ◌++◌, refl, sym, ◌∙◌, ap, subst, inl, inr, arith}
-use Rattle.std.specs.Prelude.{◌⊎◌, Some, IsSome, cond, ◌||◌, ◌==◌, find, length, drop, bytes_eq, nat_eq, count_by, if◌then◌else◌, slice_index}
-use Rattle.std.specs.List.{list_any, starts_with, sum_by}
-use Rattle.std.proofs.lemmas.Bool.Decides.{nat_tests}
-use Rattle.std.proofs.lemmas.Slice.Eq.{bytes_eq-Decides}
-use Rattle.std.proofs.lemmas.List.{append_assoc, append_cancel_left}
-use Rattle.std.proofs.lemmas.List.Folds.{list_any-append}
-use Rattle.std.proofs.lemmas.List.Sums.{sum_by-cons}
-use Rattle.cap_base.specs.Settings.{QueueRow}
-use Rattle.cap_base.specs.Paths.{is_under, is_child_of, name_of}
-use Rattle.cap_base.specs.Trees.{HasDistinctPaths}
-use Rattle.cap_base.specs.PathLaws.{UnderByPath}
-use Rattle.std.proofs.lemmas.Bool.{and_parts, or_from, cases_Bool, and_from}
+use Rattle.cap_base.proofs.Prelude.{◌≡◌, ℕ, ◌+◌, Bool, true, false, List, [], ◌∷◌, ◌++◌, refl, sym, ◌∙◌, ap, subst, inl, inr, arith, ◌⊎◌, Some, IsSome, cond, ◌||◌, ◌==◌, find, length, drop, bytes_eq, nat_eq, count_by, if◌then◌else◌, slice_index, list_any, starts_with, sum_by, nat_tests, bytes_eq-Decides, append_cancel_left, list_any-append, sum_by-cons, QueueRow, is_under, is_child_of, name_of, HasDistinctPaths, UnderByPath, and_parts, or_from, cases_Bool, and_from}
+use Rattle.std.proofs.lemmas.List.{append_assoc}
 use Rattle.cap_base.proofs.lists.Tests.{or_left, or_right}
 
 -- a list that begins with another

@@ -1,13 +1,6 @@
 -- Whether queues are a tree is told by the test.
-use Rattle.std.proofs.Common.{◌≡◌, ℕ, Bool, true, false, List, [], ◌∷◌, ◌++◌, refl, sym, ◌∙◌, ap, subst, inl, inr, arith}
-use Rattle.std.specs.Prelude.{IsSome, is_some, cond, not, ◌==◌, find, map, bytes_eq}
-use Rattle.std.specs.List.{list_any, list_all}
-use Rattle.std.proofs.lemmas.Bool.Decides.{nat_tests}
-use Rattle.cap_base.specs.Settings.{QueueRow}
-use Rattle.cap_base.specs.Trees.{HasDistinctPaths, IsTree, fronts, has_distinct_paths, is_tree}
-use Rattle.cap_base.specs.PathLaws.{TreesAreTested}
+use Rattle.cap_base.proofs.Prelude.{◌≡◌, ℕ, Bool, true, false, List, [], ◌∷◌, ◌++◌, refl, sym, ◌∙◌, ap, subst, inl, inr, arith, IsSome, is_some, cond, not, ◌==◌, find, map, bytes_eq, list_any, list_all, nat_tests, QueueRow, HasDistinctPaths, IsTree, fronts, has_distinct_paths, is_tree, TreesAreTested, and_parts, and_from, not-true}
 use Rattle.cap_base.proofs.lists.Members.{IsIn, each_of, of_each, of_map, in_map, all_in}
-use Rattle.std.proofs.lemmas.Bool.{and_parts, and_from, not-true}
 
 distinct_is : (queues : List QueueRow) → has_distinct_paths queues ≡ true → HasDistinctPaths queues
 distinct_is [] h = tt

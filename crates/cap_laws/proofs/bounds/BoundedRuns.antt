@@ -1,24 +1,8 @@
 -- Every state of a run from a bounded cluster is bounded.
-use Rattle.std.proofs.Common.{◌≡◌, ℕ, List, [], ◌∷◌, ◌++◌, refl, subst, inl, inr, arith}
-use Rattle.std.specs.Prelude.{◌&&◌, Option, Some, None, bytes_eq, true}
-use Rattle.std.proofs.lemmas.Bool.{cases_lt}
-use Rattle.cap_base.specs.Settings.{Settings}
-use Rattle.cap_base.specs.Amounts.{fits, times}
-use Rattle.cap_model.specs.Flat.{Flat, App, Container, Reservation, opened_cluster}
-use Rattle.cap_base.specs.Paths.{is_under}
-use Rattle.cap_model.specs.Uses.{use_of, queue_use}
-use Rattle.cap_model.specs.declared.event.Event.{Event}
-use Rattle.cap_model.specs.Events.{Step, Run}
-use Rattle.cap_model.specs.Bounds.{FitsMaximum, IsLeaf, AreThere, IsQueueBounded, IsNodeBounded, IsReservationBounded, IsWellFormed, IsBounded}
-use Rattle.cap_base.specs.Listing.{IsListing}
-use Rattle.cap_laws.specs.BoundLaws.{StepStaysBounded, RunsStayBounded, OpenedIsBounded, OpenedMeetsLimits}
-use Rattle.cap_base.proofs.lists.Members.{of_each}
-use Rattle.cap_model.proofs.uses.Measures.{use_amount, use_past}
-use Rattle.cap_base.proofs.Amounts.{amounts_fit}
+use Rattle.cap_laws.proofs.Prelude.{◌≡◌, ℕ, List, [], ◌∷◌, ◌++◌, refl, subst, inl, inr, arith, ◌&&◌, Option, Some, None, bytes_eq, true, cases_lt, Settings, fits, times, Flat, App, Container, Reservation, opened_cluster, is_under, use_of, queue_use, Event, Step, Run, FitsMaximum, IsLeaf, AreThere, IsQueueBounded, IsNodeBounded, IsReservationBounded, IsWellFormed, IsBounded, IsListing, StepStaysBounded, RunsStayBounded, OpenedIsBounded, OpenedMeetsLimits, of_each, use_amount, use_past, amounts_fit, listings_stand_below}
 use Rattle.cap_laws.proofs.numbers.ContainerNumbers.{numbers_stay_distinct}
 use Rattle.cap_laws.proofs.bounds.Formed.{step_formed}
 use Rattle.cap_laws.proofs.bounds.StepBounds.{step_bounds_nodes, step_apart, step_bounds_reservations}
-use Rattle.cap_base.proofs.paths.Listed.{listings_stand_below}
 use Rattle.cap_laws.proofs.uses.TreeSums.{trees_add_up}
 
 module _ {K : ℕ} where

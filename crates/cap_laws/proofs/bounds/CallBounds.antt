@@ -1,23 +1,7 @@
 -- A call keeps the bounds: it only takes away.
-use Rattle.std.proofs.Common.{◌≡◌, ℕ, ◌≤◌, Bool, true, false, List, [], ◌∷◌, refl, sym, ◌∙◌, ap, subst, inl, inr, arith}
-use Rattle.std.specs.Prelude.{◌==◌, filter, map, if◌then◌else◌}
-use Rattle.std.specs.List.{All, list_any, sum_by}
-use Rattle.std.proofs.lemmas.Bool.{cases_lt, or_from}
-use Rattle.std.proofs.lemmas.Bool.Decides.{nat_tests}
-use Rattle.cap_vector.specs.Vector.{amount}
-use Rattle.cap_base.specs.Amounts.{fits}
-use Rattle.cap_model.specs.Flat.{Flat, App, ClusterNode, Container, Reservation, app_at, node_at}
-use Rattle.cap_model.specs.Uses.{use_of, node_held}
-use Rattle.cap_base.specs.Members.{IsRising}
-use Rattle.cap_model.specs.Bounds.{AreApart, IsNodeBounded}
-use Rattle.cap_base.proofs.lists.Members.{IsIn, each_of, of_each}
-use Rattle.cap_base.proofs.lists.Tests.{or_left, or_right, not_none, some_kept}
+use Rattle.cap_laws.proofs.Prelude.{◌≡◌, ℕ, ◌≤◌, Bool, true, false, List, [], ◌∷◌, refl, sym, ◌∙◌, ap, subst, inl, inr, arith, ◌==◌, filter, map, if◌then◌else◌, All, list_any, sum_by, cases_lt, or_from, nat_tests, amount, fits, Flat, App, ClusterNode, Container, Reservation, app_at, node_at, use_of, node_held, IsRising, AreApart, IsNodeBounded, IsIn, each_of, of_each, or_left, or_right, not_none, some_kept, sum_by_agree, sum_of_zeros, none_from_high, same_counts, counted, live_part, reserved_part, use_amount, use_past, held_amount, held_past, fits_amounts, amounts_fit}
 use Rattle.cap_laws.proofs.lists.Parts.{IsPart, part_filter, part_sum}
-use Rattle.cap_base.proofs.lists.Sums.{sum_by_agree, sum_of_zeros}
-use Rattle.cap_model.proofs.lists.Numbered.{none_from_high}
 use Rattle.cap_laws.proofs.calls.Lessening.{IsLessened, IsSite, IsOldNode, HasPlaces, site_before}
-use Rattle.cap_model.proofs.uses.Measures.{same_counts, counted, live_part, reserved_part, use_amount, use_past, held_amount, held_past}
-use Rattle.cap_base.proofs.Amounts.{fits_amounts, amounts_fit}
 
 -- some of the reservations are on different nodes too
 pub none_of_part : (n : ℕ) (rs ss : List Reservation) → IsPart rs ss → list_any (λ (s : Reservation). n == s.node) rs ≡ false → list_any (λ (s : Reservation). n == s.node) ss ≡ false

@@ -1,34 +1,6 @@
 -- A step keeps a cluster well-formed.
-use Rattle.std.proofs.Common.{◌≡◌, ℕ, Bool, true, false, List, [], ◌∷◌, ◌++◌, refl, sym, ◌∙◌, ap, subst, inl, inr}
-use Rattle.std.specs.Prelude.{Option, Some, None, IsSome, is_some, is_none, cond, not, ◌||◌, ◌==◌, find, map, option_map, bytes_eq, nat_eq, if◌then◌else◌}
-use Rattle.std.specs.List.{All, list_any, starts_with}
-use Rattle.std.specs.Option.{option_map_or}
-use Rattle.cap_base.specs.Settings.{QueueRow, Settings}
-use Rattle.cap_model.specs.Asks.{Ask}
-use Rattle.cap_model.specs.declared.request.Request.{Request}
-use Rattle.cap_model.specs.News.{Reply}
-use Rattle.cap_model.specs.declared.refusal.Refusal.{Refusal}
-use Rattle.cap_model.specs.Flat.{Flat, App, ClusterNode, Container, Reservation, app_at, queue_at}
-use Rattle.cap_base.specs.Paths.{is_under}
-use Rattle.cap_model.specs.Submit.{has_children, submit_refusal, is_running}
-use Rattle.cap_model.specs.RegisterNode.{new_node}
-use Rattle.cap_model.specs.Allocate.{after_processed_allocate, is_repeated_allocate}
-use Rattle.cap_model.specs.Heartbeat.{after_processed_heartbeat, is_repeated_heartbeat, beat_of}
-use Rattle.cap_model.specs.Refresh.{refreshed_queue, refreshed_settings, first_of_settings, after_refresh}
-use Rattle.cap_model.specs.Replies.{Replies, refused_or, refusal_of, granted_cluster}
-use Rattle.cap_model.specs.declared.event.Event.{Event}
-use Rattle.cap_model.specs.Events.{Step, after_grant, after_reserve, grant_proposal, reserve_proposal}
-use Rattle.cap_model.specs.Sight.{sight_of}
-use Rattle.cap_model.specs.Admission.{NodeProposal, IsAdmissible}
-use Rattle.cap_base.specs.Members.{IsRising}
-use Rattle.cap_base.specs.properties.First.{settings_in}
-use Rattle.cap_base.specs.Trees.{HasDistinctPaths, IsTree, StandBelow}
-use Rattle.cap_model.specs.Bounds.{IsLeaf, AreThere, IsWellFormed}
-use Rattle.cap_laws.specs.BoundLaws.{StepStaysWellFormed, is_refresh}
-use Rattle.cap_base.proofs.lists.Members.{IsIn, of_filter, in_either, each_of, of_each, of_map}
+use Rattle.cap_laws.proofs.Prelude.{◌≡◌, ℕ, Bool, true, false, List, [], ◌∷◌, ◌++◌, refl, sym, ◌∙◌, ap, subst, inl, inr, Option, Some, None, IsSome, is_some, is_none, cond, not, ◌||◌, ◌==◌, find, map, option_map, bytes_eq, nat_eq, if◌then◌else◌, All, list_any, starts_with, option_map_or, QueueRow, Settings, Ask, Request, Reply, Refusal, Flat, App, ClusterNode, Container, Reservation, app_at, queue_at, is_under, has_children, submit_refusal, is_running, new_node, after_processed_allocate, is_repeated_allocate, after_processed_heartbeat, is_repeated_heartbeat, beat_of, refreshed_queue, refreshed_settings, first_of_settings, after_refresh, Replies, refused_or, refusal_of, granted_cluster, Event, Step, after_grant, after_reserve, grant_proposal, reserve_proposal, sight_of, NodeProposal, IsAdmissible, IsRising, settings_in, HasDistinctPaths, IsTree, StandBelow, IsLeaf, AreThere, IsWellFormed, StepStaysWellFormed, is_refresh, IsIn, of_filter, in_either, each_of, of_each, of_map, true_of_none, some_kept, rising_kept, rising_more, same_numbers}
 use Rattle.cap_laws.proofs.choice.Reasons.{none_holds}
-use Rattle.cap_base.proofs.lists.Tests.{true_of_none, some_kept}
-use Rattle.cap_model.proofs.lists.Numbered.{rising_kept, rising_more, same_numbers}
 use Rattle.cap_laws.proofs.calls.Moves.{AppsMove, call_moves, grant_change, no_change}
 use Rattle.cap_laws.proofs.numbers.AppNumbers.{app_numbers_move}
 use Rattle.cap_laws.proofs.calls.Lessening.{HasPlaces, IsSite, lessened, asked, change_stands}

@@ -1,33 +1,7 @@
 -- An admissible grant or reservation leaves the queues and the user that it counts for within their limits, and nodes within their totals.
-use Rattle.std.proofs.Common.{◌≡◌, ℕ, ◌+◌, ◌≤◌, ◌<◌, Bool, true, false, List, [], ◌∷◌, ◌++◌, refl, sym, ◌∙◌, ap, subst, inl, inr, arith}
-use Rattle.std.specs.Prelude.{◌⊎◌, Option, Some, None, is_some, is_none, not, ◌||◌, ◌==◌, filter, map, option_map, unwrap_or, bytes_eq, if◌then◌else◌}
-use Rattle.std.specs.List.{All, sum_by}
-use Rattle.std.proofs.lemmas.Bool.{cases_lt, and_parts, cases_Bool}
-use Rattle.std.proofs.lemmas.Bool.Decides.{nat_tests}
-use Rattle.std.proofs.lemmas.Slice.Eq.{bytes_eq-Decides}
-use Rattle.std.proofs.lemmas.List.Sums.{sum_by-cons, sum_by_push}
-use Rattle.std.proofs.lemmas.List.Filters.{sum_by-filter_both}
-use Rattle.cap_vector.specs.Vector.{amount, less}
-use Rattle.cap_vector.proofs.AmountLemmas.{amount-plus, amount-less}
-use Rattle.cap_base.specs.Settings.{QueueRow}
-use Rattle.cap_base.specs.Cascade.{holds_of}
-use Rattle.cap_base.specs.Amounts.{fits, times}
-use Rattle.cap_model.specs.Asks.{same_key}
-use Rattle.cap_model.specs.Flat.{Flat, ClusterNode, Container, Reservation, app_at, node_at}
-use Rattle.cap_model.specs.Uses.{use_of, queue_use, user_use, node_held, node_free}
-use Rattle.cap_model.specs.Sight.{sight_of, node_sight, queue_sight, seen_node, seen_queue, QueueSight, NodeSight}
-use Rattle.cap_model.specs.Admission.{NodeProposal, IsWithinLimits, leaf_path, user_name, room_replaced, use_after, fits_free}
-use Rattle.cap_model.specs.Events.{grant_proposal, reserve_proposal, after_grant, after_reserve}
-use Rattle.cap_base.specs.Members.{IsRising}
-use Rattle.cap_model.specs.Bounds.{FitsMaximum, IsNodeBounded, IsWellFormed}
-use Rattle.cap_model.specs.Risen.{in_queue, of_user}
-use Rattle.cap_base.proofs.lists.Members.{IsIn, in_filter, each_of, of_each}
-use Rattle.cap_base.proofs.lists.Sums.{sum_by_agree}
-use Rattle.cap_model.proofs.lists.Numbered.{found_by_number}
+use Rattle.cap_laws.proofs.Prelude.{◌≡◌, ℕ, ◌+◌, ◌≤◌, ◌<◌, Bool, true, false, List, [], ◌∷◌, ◌++◌, refl, sym, ◌∙◌, ap, subst, inl, inr, arith, ◌⊎◌, Option, Some, None, is_some, is_none, not, ◌||◌, ◌==◌, filter, map, option_map, unwrap_or, bytes_eq, if◌then◌else◌, All, sum_by, cases_lt, and_parts, cases_Bool, nat_tests, bytes_eq-Decides, sum_by-cons, sum_by_push, sum_by-filter_both, amount, less, amount-plus, amount-less, QueueRow, holds_of, fits, times, same_key, Flat, ClusterNode, Container, Reservation, app_at, node_at, use_of, queue_use, user_use, node_held, node_free, sight_of, node_sight, queue_sight, seen_node, seen_queue, QueueSight, NodeSight, NodeProposal, IsWithinLimits, leaf_path, user_name, room_replaced, use_after, fits_free, grant_proposal, reserve_proposal, after_grant, after_reserve, IsRising, FitsMaximum, IsNodeBounded, IsWellFormed, in_queue, of_user, IsIn, in_filter, each_of, of_each, sum_by_agree, found_by_number, counts, same_counts, counted, live_part, reserved_part, use_amount, use_past, held_amount, held_past, fits_amounts, amounts_fit}
 use Rattle.cap_laws.proofs.calls.Moves.{grant_change}
 use Rattle.cap_laws.proofs.calls.Lessening.{change_stands}
-use Rattle.cap_model.proofs.uses.Measures.{counts, same_counts, counted, live_part, reserved_part, use_amount, use_past, held_amount, held_past}
-use Rattle.cap_base.proofs.Amounts.{fits_amounts, amounts_fit}
 use Rattle.cap_laws.proofs.choice.Proposers.{IsSeen, seen_is, node_seen, IsReplaced, replaced_is, maximum_stays, leaf_seen}
 
 -- a term is at most a sum that has it

@@ -1,20 +1,5 @@
 -- What the parts of a cluster say of the whole.
-use Rattle.std.proofs.Common.{◌≡◌, ℕ, Bool, true, false, List, [], ◌∷◌, refl, sym, ◌∙◌, ap, inl, inr, arith}
-use Rattle.std.specs.Prelude.{Option, Some, None, IfSome, find, not, ◌==◌, cond, map, count_by, if◌then◌else◌}
-use Rattle.std.proofs.lemmas.Bool.Decides.{nat_tests}
-use Rattle.cap_base.specs.Settings.{QueueRow}
-use Rattle.cap_model.specs.Asks.{Ask}
-use Rattle.cap_model.specs.Flat.{Flat, App, AppTable, queue_at, with_reserved, app_at, with_app, change_app}
-use Rattle.cap_base.specs.Paths.{is_under}
-use Rattle.cap_model.specs.Uses.{queue_use}
-use Rattle.cap_model.specs.Submit.{has_children, is_running}
-use Rattle.cap_model.specs.QueueCalls.{queue_report}
-use Rattle.cap_model.specs.Asking.{after_ask, rounded_ask, put_ask}
-use Rattle.cap_model.specs.Allocate.{after_telling}
-use Rattle.cap_base.specs.Members.{IsRising}
-use Rattle.cap_base.proofs.lists.Members.{IsIn}
-use Rattle.cap_model.proofs.lists.Numbered.{found_by_number}
-use Rattle.cap_laws.specs.Reservations.{kept_by_ask}
+use Rattle.cap_laws.proofs.Prelude.{◌≡◌, ℕ, Bool, true, false, List, [], ◌∷◌, refl, sym, ◌∙◌, ap, inl, inr, arith, Option, Some, None, IfSome, find, not, ◌==◌, cond, map, count_by, if◌then◌else◌, nat_tests, QueueRow, Ask, Flat, App, AppTable, queue_at, with_reserved, app_at, with_app, change_app, is_under, queue_use, has_children, is_running, queue_report, after_ask, rounded_ask, put_ask, after_telling, IsRising, IsIn, found_by_number, kept_by_ask}
 
 -- what is reported of a queue
 pub report_is : {K : ℕ} (cluster : Flat K) (path : List ℕ) (q : QueueRow) (running below : Bool) (guaranteed : List ℕ) (maximum : Option (List ℕ)) (used : List ℕ) (apps : ℕ)

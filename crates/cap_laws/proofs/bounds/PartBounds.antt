@@ -1,17 +1,5 @@
 -- A part of a call keeps the bounds: it only takes away from what is used.
-use Rattle.std.proofs.Common.{◌≡◌, ℕ, List, refl, sym, subst}
-use Rattle.std.specs.Prelude.{not, map}
-use Rattle.std.specs.Option.{option_map_or}
-use Rattle.cap_model.specs.Asks.{Ask}
-use Rattle.cap_model.specs.declared.news.Cause.{Cause}
-use Rattle.cap_model.specs.Flat.{Flat, App, ClusterNode, Container, app_at, is_for, with_app}
-use Rattle.cap_model.specs.Asking.{after_ask, put_ask, reservations_left}
-use Rattle.cap_model.specs.Ending.{is_among, with_ends, after_ends}
-use Rattle.cap_model.specs.Allocate.{after_telling}
-use Rattle.cap_base.specs.Members.{IsRising}
-use Rattle.cap_model.specs.Bounds.{IsReservationBounded, IsBounded}
-use Rattle.cap_laws.specs.BoundLaws.{EndsStayBounded, AskStaysBounded, ReportStaysBounded}
-use Rattle.cap_base.proofs.lists.Members.{of_each}
+use Rattle.cap_laws.proofs.Prelude.{◌≡◌, ℕ, List, refl, sym, subst, not, map, option_map_or, Ask, Cause, Flat, App, ClusterNode, Container, app_at, is_for, with_app, after_ask, put_ask, reservations_left, is_among, with_ends, after_ends, after_telling, IsRising, IsReservationBounded, IsBounded, EndsStayBounded, AskStaysBounded, ReportStaysBounded, of_each}
 use Rattle.cap_laws.proofs.lists.Parts.{IsPart, part_itself, part_keep_first}
 use Rattle.cap_laws.proofs.calls.Moves.{AppsChange, AppsMove, one_change, ends_change}
 use Rattle.cap_laws.proofs.numbers.ContainerNumbers.{IsThinned, thinned_same, thinned_numbers}

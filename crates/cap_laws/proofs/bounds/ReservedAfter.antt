@@ -1,27 +1,7 @@
 -- A grant and a reservation keep reservations bounded.
-use Rattle.std.proofs.Common.{◌≡◌, ℕ, ◌+◌, ◌-◌, ◌≤◌, Bool, true, false, List, [], ◌∷◌, ◌++◌, refl, sym, ◌∙◌, ap, subst, inl, inr, arith}
-use Rattle.std.specs.Prelude.{◌⊎◌, Option, Some, None, IsSome, cond, not, ◌&&◌, ◌||◌, ◌==◌, filter, find, length, option_map, unwrap_or, if◌then◌else◌}
-use Rattle.std.specs.List.{list_any, sum_by}
-use Rattle.std.proofs.lemmas.Bool.Decides.{nat_tests}
-use Rattle.std.proofs.lemmas.List.Sums.{sum_by_push, length-filter}
-use Rattle.std.proofs.lemmas.List.Filters.{sum_by-filter_both}
-use Rattle.std.proofs.lemmas.List.Folds.{list_any-append}
-use Rattle.cap_base.specs.Cascade.{holds_of}
-use Rattle.cap_base.specs.Amounts.{fits}
-use Rattle.cap_model.specs.declared.ask.Key.{Key}
-use Rattle.cap_model.specs.Asks.{same_key, Ask}
-use Rattle.cap_model.specs.Flat.{Flat, App, ClusterNode, Container, Reservation, app_at, node_at, is_for, ask_at, reservation_on}
-use Rattle.cap_model.specs.Sight.{NodeSight, sight_of, node_sight, seen_node}
-use Rattle.cap_model.specs.Admission.{NodeProposal, is_wanted, is_reserved_for, node_reservation, fits_total}
-use Rattle.cap_model.specs.Bounds.{AreApart, reservations_for, AreThere}
-use Rattle.cap_model.specs.Events.{after_grant, after_reserve, take_one, news_of, grant_proposal, reserve_proposal}
-use Rattle.cap_base.proofs.lists.Members.{IsIn, found, of_filter, in_filter, in_either}
-use Rattle.std.proofs.lemmas.Bool.{or_from, and_from, cases_Bool}
+use Rattle.cap_laws.proofs.Prelude.{◌≡◌, ℕ, ◌+◌, ◌-◌, ◌≤◌, Bool, true, false, List, [], ◌∷◌, ◌++◌, refl, sym, ◌∙◌, ap, subst, inl, inr, arith, ◌⊎◌, Option, Some, None, IsSome, cond, not, ◌&&◌, ◌||◌, ◌==◌, filter, find, length, option_map, unwrap_or, if◌then◌else◌, list_any, sum_by, nat_tests, sum_by_push, length-filter, sum_by-filter_both, list_any-append, holds_of, fits, Key, same_key, Ask, Flat, App, ClusterNode, Container, Reservation, app_at, node_at, is_for, ask_at, reservation_on, NodeSight, sight_of, node_sight, seen_node, NodeProposal, is_wanted, is_reserved_for, node_reservation, fits_total, AreApart, reservations_for, AreThere, after_grant, after_reserve, take_one, news_of, grant_proposal, reserve_proposal, IsIn, found, of_filter, in_filter, in_either, or_from, and_from, cases_Bool, find_changed, one_where, same_key_itself, one_less, one_less_found, other_ask_stays}
 use Rattle.cap_laws.proofs.lists.Parts.{part_filter}
-use Rattle.cap_model.proofs.lists.Numbered.{find_changed}
-use Rattle.cap_base.proofs.lists.Sums.{one_where}
 use Rattle.cap_laws.proofs.choice.Proposers.{IsSeen, node_seen, held_for}
-use Rattle.cap_model.proofs.calls.KeptAsks.{same_key_itself, one_less, one_less_found, other_ask_stays}
 use Rattle.cap_laws.proofs.bounds.Reserving.{AreBounded, IsEnough, enough_is, is_enough, fewer_left, one_left, for_it, same_reservations}
 use Rattle.cap_laws.proofs.bounds.Wanting.{wanted_is}
 

@@ -1,21 +1,7 @@
 -- Reservations stay on different nodes, each on one that is present and has as much in all.
-use Rattle.std.proofs.Common.{◌≡◌, ℕ, zero, suc, Bool, true, false, List, [], ◌∷◌, ◌++◌, Some, None, refl, sym, ◌∙◌, ap, subst, inl, inr, arith}
-use Rattle.std.specs.Prelude.{Option, IsSome, Result, Ok, Err, IfOk, OnErr, ◌==◌, find, filter, map, not, option_map, if◌then◌else◌}
-use Rattle.std.specs.List.{remove}
-use Rattle.std.proofs.lemmas.Bool.Decides.{nat_tests}
-use Rattle.cap_base.specs.declared.no_memory.NoMemory.{NoMemory}
-use Rattle.cap_base.specs.Cascade.{holds_of}
-use Rattle.cap_base.specs.Amounts.{fits}
-use Rattle.cap_model.specs.Flat.{ClusterNode, NodeTable, Reservation, change_node}
-use Rattle.cap_model.specs.Bounds.{AreApart}
-use Rattle.cap_model.specs.RegisterNode.{add_node, new_node}
-use Rattle.cap_model.specs.NodeGone.{remove_node}
-use Rattle.cap_base.proofs.lists.Members.{IsIn, each_of, of_each, in_filter}
-use Rattle.cap_model.proofs.lists.Numbered.{find_changed, find_others, find_with_more}
+use Rattle.cap_laws.proofs.Prelude.{◌≡◌, ℕ, zero, suc, Bool, true, false, List, [], ◌∷◌, ◌++◌, Some, None, refl, sym, ◌∙◌, ap, subst, inl, inr, arith, Option, IsSome, Result, Ok, Err, IfOk, OnErr, ◌==◌, find, filter, map, not, option_map, if◌then◌else◌, remove, nat_tests, NoMemory, holds_of, fits, ClusterNode, NodeTable, Reservation, change_node, AreApart, add_node, new_node, remove_node, IsIn, each_of, of_each, in_filter, find_changed, find_others, find_with_more, kept_if, AreReserved, fits_its_node}
 use Rattle.cap_laws.proofs.lists.Parts.{IsPart, part_in, part_itself}
-use Rattle.cap_base.proofs.lists.Tests.{kept_if}
 use Rattle.cap_laws.proofs.bounds.CallBounds.{apart_part}
-use Rattle.cap_laws.specs.Reservations.{AreReserved, fits_its_node}
 
 -- nothing is reserved
 pub none_reserved_yet : (present : List ClusterNode) (rs : List Reservation) → rs ≡ [] → AreReserved present rs

@@ -1,23 +1,8 @@
 -- Reservations stay apart, on nodes that they fit, and no more than their asks count.
-use Rattle.std.proofs.Common.{◌≡◌, ℕ, ◌≤◌, Bool, true, false, List, [], ◌∷◌, refl, sym, ◌∙◌, ap, inl, inr, arith}
-use Rattle.std.specs.Prelude.{◌⊎◌, Option, Some, None, cond, ◌&&◌, ◌==◌, filter, length, option_map, nat_le, if◌then◌else◌}
-use Rattle.std.specs.Option.{option_map_or}
-use Rattle.std.proofs.lemmas.Bool.Decides.{nat_tests}
-use Rattle.std.proofs.lemmas.List.Sums.{length-filter}
-use Rattle.cap_base.specs.Cascade.{holds_of}
-use Rattle.cap_base.specs.Amounts.{fits}
-use Rattle.cap_model.specs.declared.ask.Key.{Key}
-use Rattle.cap_model.specs.Asks.{same_key, Ask}
-use Rattle.cap_model.specs.Flat.{Flat, App, ClusterNode, Reservation, app_at, node_at, is_for, ask_at}
-use Rattle.cap_model.specs.Asking.{after_ask, after_asks, rounded_ask, put_ask, reservations_left, is_changed}
-use Rattle.cap_model.specs.Bounds.{IsReservationBounded, reservations_for}
-use Rattle.cap_base.proofs.lists.Members.{IsIn, found}
-use Rattle.std.proofs.lemmas.Bool.{and_parts, cases_Bool}
+use Rattle.cap_laws.proofs.Prelude.{◌≡◌, ℕ, ◌≤◌, Bool, true, false, List, [], ◌∷◌, refl, sym, ◌∙◌, ap, inl, inr, arith, ◌⊎◌, Option, Some, None, cond, ◌&&◌, ◌==◌, filter, length, option_map, nat_le, if◌then◌else◌, option_map_or, nat_tests, length-filter, holds_of, fits, Key, same_key, Ask, Flat, App, ClusterNode, Reservation, app_at, node_at, is_for, ask_at, after_ask, after_asks, rounded_ask, put_ask, reservations_left, is_changed, IsReservationBounded, reservations_for, IsIn, found, and_parts, cases_Bool, find_changed, same_key_is, kept_few, put_is_found, others_are_found, not_same_other}
 use Rattle.cap_laws.proofs.lists.Parts.{IsPart, part_in, part_sum, part_keep_first}
-use Rattle.cap_model.proofs.lists.Numbered.{find_changed}
 use Rattle.cap_laws.proofs.calls.Lessening.{capacity}
 use Rattle.cap_laws.proofs.bounds.Growing.{in_sum}
-use Rattle.cap_model.proofs.calls.KeptAsks.{same_key_is, kept_few, put_is_found, others_are_found, not_same_other}
 
 -- the asks of an application
 abbrev pub asking : Option App → Option (List Ask)

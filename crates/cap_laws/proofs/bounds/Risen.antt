@@ -1,27 +1,5 @@
 -- Limits stay met but for a Refresh, and after each run they are met or nothing has risen since they were.
-use Rattle.std.proofs.Common.{◌≡◌, ℕ, ◌≤◌, Bool, true, false, List, [], ◌∷◌, ◌++◌, refl, sym, ◌∙◌, ap, subst, inl, inr, arith}
-use Rattle.std.specs.Prelude.{◌⊎◌, Option, Some, None, IfSome, find, option_map, bytes_eq}
-use Rattle.std.specs.List.{All, list_any}
-use Rattle.std.proofs.lemmas.Bool.{cases_Bool}
-use Rattle.std.proofs.lemmas.List.{append_assoc, append-nil}
-use Rattle.std.proofs.lemmas.Slice.Eq.{bytes_eq-Decides}
-use Rattle.cap_vector.specs.Vector.{amount}
-use Rattle.cap_base.specs.Settings.{QueueRow}
-use Rattle.cap_base.specs.Amounts.{fits, times}
-use Rattle.cap_base.proofs.Amounts.{fits_amounts, amounts_fit}
-use Rattle.cap_base.proofs.lists.Members.{IsIn, found, each_of, of_each}
-use Rattle.cap_base.proofs.lists.Tests.{or_left, or_right}
-use Rattle.cap_model.specs.Flat.{Flat, app_at, queue_at}
-use Rattle.cap_model.specs.Uses.{use_of, queue_use, user_use}
-use Rattle.cap_model.specs.Replies.{granted_cluster}
-use Rattle.cap_model.specs.Sight.{sight_of}
-use Rattle.cap_model.specs.Admission.{NodeProposal, IsWithinLimits}
-use Rattle.cap_model.specs.declared.event.Event.{Event}
-use Rattle.cap_model.specs.Events.{Step, Run, after_grant, after_reserve, grant_proposal, reserve_proposal}
-use Rattle.cap_model.specs.Bounds.{FitsMaximum, IsQueueBounded, IsWellFormed, IsBounded}
-use Rattle.cap_model.specs.Risen.{in_queue, of_user, raises, QuietRun, NotRisen, MeetsMaximum, MeetsUserLimit, LimitsAreMetOrNotRisen}
-use Rattle.cap_model.proofs.uses.Measures.{counts}
-use Rattle.cap_laws.specs.BoundLaws.{refreshes, LimitsStayMet, QueuesStayBounded, QuietRunsRaiseNothing, LimitsOverRuns}
+use Rattle.cap_laws.proofs.Prelude.{◌≡◌, ℕ, ◌≤◌, Bool, true, false, List, [], ◌∷◌, ◌++◌, refl, sym, ◌∙◌, ap, subst, inl, inr, arith, ◌⊎◌, Option, Some, None, IfSome, find, option_map, bytes_eq, All, list_any, cases_Bool, append_assoc, append-nil, bytes_eq-Decides, amount, QueueRow, fits, times, fits_amounts, amounts_fit, IsIn, found, each_of, of_each, or_left, or_right, Flat, app_at, queue_at, use_of, queue_use, user_use, granted_cluster, sight_of, NodeProposal, IsWithinLimits, Event, Step, Run, after_grant, after_reserve, grant_proposal, reserve_proposal, FitsMaximum, IsQueueBounded, IsWellFormed, IsBounded, in_queue, of_user, raises, QuietRun, NotRisen, MeetsMaximum, MeetsUserLimit, LimitsAreMetOrNotRisen, counts, refreshes, LimitsStayMet, QueuesStayBounded, QuietRunsRaiseNothing, LimitsOverRuns}
 use Rattle.cap_laws.proofs.calls.Lessening.{lessened}
 use Rattle.cap_laws.proofs.calls.Refreshing.{find_kept}
 use Rattle.cap_laws.proofs.choice.Proposers.{found_by_path}

@@ -1,37 +1,11 @@
 -- A step keeps a cluster within its sizes.
-use Rattle.std.proofs.Common.{◌≡◌, ℕ, ◌+◌, ◌≤◌, ◌<◌, Bool, true, false, List, [], ◌∷◌, ◌++◌, length, refl, sym, ap, subst, inl, inr, arith}
-use Rattle.std.specs.Prelude.{Some, None, is_none, cond, not, ◌==◌, filter, nat_le, bytes_eq, if◌then◌else◌}
-use Rattle.std.specs.List.{sum_by, list_any}
-use Rattle.std.proofs.lemmas.Bool.{cases_lt, not-false}
-use Rattle.std.proofs.lemmas.Bool.Decides.{nat_tests}
-use Rattle.std.proofs.lemmas.List.{length-append, length-map}
-use Rattle.std.proofs.lemmas.List.Sums.{sum_by_push}
-use Rattle.cap_vector.specs.Vector.{amount, amount_max, plus, is_zero, is_within, IsWithin}
-use Rattle.cap_vector.proofs.AmountLemmas.{amount-plus, within_from_test}
-use Rattle.cap_base.specs.Limits.{number_end, nodes_max}
-use Rattle.cap_model.specs.Asks.{Ask}
-use Rattle.cap_model.specs.declared.request.Request.{Request}
-use Rattle.cap_model.specs.declared.refusal.Refusal.{Refusal}
-use Rattle.cap_base.specs.Amounts.{part}
-use Rattle.cap_model.specs.Flat.{Flat, ClusterNode, queue_at}
-use Rattle.cap_model.specs.Submit.{submit_refusal, has_children, is_running}
-use Rattle.cap_model.specs.RegisterNode.{register_node_refusal, total_of_nodes, new_node}
-use Rattle.cap_model.specs.Allocate.{after_processed_allocate, is_repeated_allocate}
-use Rattle.cap_model.specs.Heartbeat.{after_processed_heartbeat, is_repeated_heartbeat, beat_of}
-use Rattle.cap_model.specs.Replies.{refusal_of, granted_cluster}
-use Rattle.cap_model.specs.declared.event.Event.{Event}
-use Rattle.cap_model.specs.Events.{Step, Run}
-use Rattle.cap_model.specs.Bounds.{IsWithinSizes}
-use Rattle.cap_laws.specs.BoundLaws.{SizesStay, RunsStayWithinSizes, OpenedIsWithinSizes}
+use Rattle.cap_laws.proofs.Prelude.{◌≡◌, ℕ, ◌+◌, ◌≤◌, ◌<◌, Bool, true, false, List, [], ◌∷◌, ◌++◌, length, refl, sym, ap, subst, inl, inr, arith, Some, None, is_none, cond, not, ◌==◌, filter, nat_le, bytes_eq, if◌then◌else◌, sum_by, list_any, cases_lt, not-false, nat_tests, length-append, length-map, sum_by_push, amount, amount_max, plus, is_zero, is_within, IsWithin, amount-plus, within_from_test, number_end, nodes_max, Ask, Request, Refusal, part, Flat, ClusterNode, queue_at, submit_refusal, has_children, is_running, register_node_refusal, total_of_nodes, new_node, after_processed_allocate, is_repeated_allocate, after_processed_heartbeat, is_repeated_heartbeat, beat_of, refusal_of, granted_cluster, Event, Step, Run, IsWithinSizes, SizesStay, RunsStayWithinSizes, OpenedIsWithinSizes, sum_by_map, amount_of, amount_past, length-kept}
 use Rattle.cap_laws.proofs.choice.Reasons.{none_holds}
 use Rattle.cap_laws.proofs.lists.Parts.{part_filter, part_sum}
-use Rattle.cap_base.proofs.lists.Sums.{sum_by_map}
 use Rattle.cap_laws.proofs.numbers.ContainerNumbers.{call_thins}
 use Rattle.cap_laws.proofs.calls.Moves.{AppsMove, call_moves}
 use Rattle.cap_laws.proofs.calls.Lessening.{asked}
-use Rattle.cap_base.proofs.Amounts.{amount_of, amount_past}
 use Rattle.cap_laws.proofs.bounds.Formed.{after_call}
-use Rattle.cap_base.proofs.lists.Filters.{length-kept}
 
 -- what some nodes have together
 abbrev together : ℕ → List ClusterNode → ℕ → ℕ

@@ -1,24 +1,6 @@
 -- A step from a bounded cluster keeps each bound.
-use Rattle.std.proofs.Common.{◌≡◌, ℕ, Bool, true, false, List, [], ◌∷◌, refl, sym, ◌∙◌, ap, subst, inr}
-use Rattle.std.specs.Prelude.{Option, Some, None, cond, not, ◌==◌, ◌-◌, length, filter, find, map, option_map, if◌then◌else◌}
-use Rattle.std.specs.List.{All}
-use Rattle.cap_model.specs.Asks.{Ask}
-use Rattle.cap_model.specs.declared.news.Cause.{Cause}
-use Rattle.cap_model.specs.declared.request.Request.{Request}
-use Rattle.cap_model.specs.Flat.{Flat, App, Reservation, app_at, containers_on}
-use Rattle.cap_model.specs.Asking.{after_asks}
-use Rattle.cap_model.specs.Ending.{with_ends}
-use Rattle.cap_model.specs.Submit.{new_app}
-use Rattle.cap_model.specs.Allocate.{after_processed_allocate, after_telling, after_wishes, is_repeated_allocate, released_by}
-use Rattle.cap_model.specs.Heartbeat.{after_processed_heartbeat, is_repeated_heartbeat, ended_by}
-use Rattle.cap_model.specs.Replies.{granted_cluster}
-use Rattle.cap_model.specs.declared.event.Event.{Event}
-use Rattle.cap_model.specs.Events.{Step}
-use Rattle.cap_model.specs.Bounds.{AreApart, IsNodeBounded, IsReservationBounded, IsBounded, AreThere}
-use Rattle.cap_laws.specs.BoundLaws.{NodesStayBounded, ReservationsStayApart, ReservationsStayBounded}
-use Rattle.cap_base.proofs.lists.Members.{IsIn, each_of, of_each}
+use Rattle.cap_laws.proofs.Prelude.{◌≡◌, ℕ, Bool, true, false, List, [], ◌∷◌, refl, sym, ◌∙◌, ap, subst, inr, Option, Some, None, cond, not, ◌==◌, ◌-◌, length, filter, find, map, option_map, if◌then◌else◌, All, Ask, Cause, Request, Flat, App, Reservation, app_at, containers_on, after_asks, with_ends, new_app, after_processed_allocate, after_telling, after_wishes, is_repeated_allocate, released_by, after_processed_heartbeat, is_repeated_heartbeat, ended_by, granted_cluster, Event, Step, AreApart, IsNodeBounded, IsReservationBounded, IsBounded, AreThere, NodesStayBounded, ReservationsStayApart, ReservationsStayBounded, IsIn, each_of, of_each, find_changed, find_others, find_with_more}
 use Rattle.cap_laws.proofs.lists.Parts.{part_itself, part_filter}
-use Rattle.cap_model.proofs.lists.Numbered.{find_changed, find_others, find_with_more}
 use Rattle.cap_laws.proofs.calls.Lessening.{HasPlaces, IsSite, IsLessened, lessened, gone_app}
 use Rattle.cap_laws.proofs.bounds.CallBounds.{nodes_stay, apart_part}
 use Rattle.cap_laws.proofs.choice.Proposers.{seen_is}

@@ -1,25 +1,8 @@
 -- A container that is still wanted: fewer reservations than the ask counts. And what a grant or a reservation does to reservations.
-use Rattle.std.proofs.Common.{◌≡◌, ℕ, ◌+◌, ◌≤◌, ◌<◌, Bool, true, false, List, [], ◌∷◌, refl, sym, ◌∙◌, ap, inl, inr, arith}
-use Rattle.std.specs.Prelude.{◌⊎◌, Option, Some, None, cond, ◌&&◌, ◌==◌, filter, find, map, length, option_and_then, nat_le}
-use Rattle.std.specs.List.{list_any, sum_by, count_by}
-use Rattle.std.proofs.lemmas.Bool.Decides.{nat_tests}
-use Rattle.std.proofs.lemmas.List.Sums.{sum_by-cons, sum_by-le-sum_by, length-filter}
-use Rattle.cap_base.specs.Cascade.{holds_of}
-use Rattle.cap_model.specs.Asks.{same_key, Ask}
-use Rattle.cap_model.specs.Flat.{Flat, App, ClusterNode, Reservation, node_at, is_for, ask_at, reservation_on}
-use Rattle.cap_model.specs.Sight.{Sight, NodeSight, AppSight, sight_of, node_sight, app_sight, seen_app, still_wanted}
-use Rattle.cap_model.specs.Admission.{NodeProposal, is_wanted}
-use Rattle.cap_base.specs.Members.{IsRising}
-use Rattle.cap_model.specs.Bounds.{AreApart, reservations_for, AreThere}
-use Rattle.cap_laws.specs.EngineLaws.{ReasonsAreInOrder}
-use Rattle.cap_laws.specs.BoundLaws.{WantedIsSeen}
-use Rattle.cap_base.proofs.lists.Members.{IsIn, found, each_of}
-use Rattle.cap_base.proofs.lists.Tests.{or_left, or_right, value_of}
-use Rattle.cap_base.proofs.lists.Sums.{sum_by_map, sum_of_zeros, one_where, sum_of_two, sum_by_same}
+use Rattle.cap_laws.proofs.Prelude.{◌≡◌, ℕ, ◌+◌, ◌≤◌, ◌<◌, Bool, true, false, List, [], ◌∷◌, refl, sym, ◌∙◌, ap, inl, inr, arith, ◌⊎◌, Option, Some, None, cond, ◌&&◌, ◌==◌, filter, find, map, length, option_and_then, nat_le, list_any, sum_by, nat_tests, sum_by-cons, sum_by-le-sum_by, length-filter, holds_of, same_key, Ask, Flat, App, ClusterNode, Reservation, node_at, is_for, ask_at, reservation_on, Sight, NodeSight, AppSight, sight_of, node_sight, app_sight, seen_app, still_wanted, NodeProposal, is_wanted, IsRising, AreApart, reservations_for, AreThere, ReasonsAreInOrder, WantedIsSeen, IsIn, found, each_of, or_left, or_right, value_of, sum_by_map, sum_of_zeros, one_where, sum_of_two, sum_by_same, cases_Bool, same_key_is}
+use Rattle.std.specs.List.{count_by}
 use Rattle.cap_laws.proofs.bounds.Growing.{in_sum}
 use Rattle.cap_laws.proofs.choice.Proposers.{IsSeen}
-use Rattle.std.proofs.lemmas.Bool.{cases_Bool}
-use Rattle.cap_model.proofs.calls.KeptAsks.{same_key_is}
 
 -- nobody else is on the node of one of them
 pub none_there : (n m : ℕ) (rs : List Reservation) → list_any (λ (s : Reservation). n == s.node) rs ≡ false → n == m ≡ true → find (λ (s : Reservation). s.node == m) rs ≡ None

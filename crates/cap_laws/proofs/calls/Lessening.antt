@@ -1,26 +1,8 @@
 -- What a call that is not refused leaves: of the live containers and the reservations some, each with its application and its node.
-use Rattle.std.proofs.Common.{◌≡◌, ℕ, Bool, true, false, List, [], ◌∷◌, refl, sym, ◌∙◌, ap, subst, inl, inr, arith}
-use Rattle.std.specs.Prelude.{◌⊎◌, Option, Some, None, IsSome, cond, not, ◌==◌, filter, find, option_map, if◌then◌else◌}
-use Rattle.std.proofs.lemmas.Bool.Decides.{nat_tests}
-use Rattle.std.proofs.lemmas.Bool.{not-true}
-use Rattle.cap_model.specs.Asks.{Ask}
-use Rattle.cap_model.specs.declared.request.Request.{Request}
-use Rattle.cap_model.specs.declared.news.Cause.{Cause}
-use Rattle.cap_model.specs.Flat.{Flat, App, ClusterNode, Container, Reservation, app_at, node_at, is_for, containers_on}
-use Rattle.cap_model.specs.Asking.{after_asks, after_ask, rounded_ask}
-use Rattle.cap_model.specs.Ending.{is_among}
-use Rattle.cap_model.specs.Submit.{new_app}
-use Rattle.cap_model.specs.RegisterNode.{new_node}
-use Rattle.cap_model.specs.Allocate.{after_processed_allocate, is_repeated_allocate}
-use Rattle.cap_model.specs.Heartbeat.{after_processed_heartbeat, is_repeated_heartbeat, ended_by, beat_of}
-use Rattle.cap_model.specs.Replies.{granted_cluster}
-use Rattle.cap_base.proofs.lists.Members.{IsIn, of_filter, in_filter, in_either, of_map}
+use Rattle.cap_laws.proofs.Prelude.{◌≡◌, ℕ, Bool, true, false, List, [], ◌∷◌, refl, sym, ◌∙◌, ap, subst, inl, inr, arith, ◌⊎◌, Option, Some, None, IsSome, cond, not, ◌==◌, filter, find, option_map, if◌then◌else◌, nat_tests, not-true, Ask, Request, Cause, Flat, App, ClusterNode, Container, Reservation, app_at, node_at, is_for, containers_on, after_asks, after_ask, rounded_ask, is_among, new_app, new_node, after_processed_allocate, is_repeated_allocate, after_processed_heartbeat, is_repeated_heartbeat, ended_by, beat_of, granted_cluster, IsIn, of_filter, in_filter, in_either, of_map, find_changed, find_others, find_with_more, kept_if, standing}
 use Rattle.cap_laws.proofs.numbers.ContainerNumbers.{IsThinned, call_thins, thinned_same, processed_allocate_thins}
 use Rattle.cap_laws.proofs.numbers.Balance.{among_itself}
 use Rattle.cap_laws.proofs.lists.Parts.{IsPart, part_itself, part_filter, part_in, part_of_part, part_keep_first}
-use Rattle.cap_model.proofs.lists.Numbered.{find_changed, find_others, find_with_more}
-use Rattle.cap_base.proofs.lists.Tests.{kept_if}
-use Rattle.cap_model.proofs.uses.Measures.{standing}
 use Rattle.cap_laws.proofs.calls.Moves.{AppsChange, allocate_change, ends_change, one_change, no_change}
 
 -- the total of a node

@@ -1,23 +1,5 @@
 -- What a step does to the applications.
-use Rattle.std.proofs.Common.{◌≡◌, ℕ, ◌+◌, Bool, true, false, List, [], ◌∷◌, ◌++◌, refl, sym, ◌∙◌, ap, subst, inl, inr}
-use Rattle.std.specs.Prelude.{Option, Some, None, cond, not, ◌==◌, length, ◌-◌, filter, map, if◌then◌else◌}
-use Rattle.std.proofs.lemmas.List.{map-id}
-use Rattle.cap_model.specs.Asks.{Ask}
-use Rattle.cap_model.specs.declared.news.Cause.{Cause}
-use Rattle.cap_model.specs.declared.request.Request.{Request}
-use Rattle.cap_model.specs.News.{Reply}
-use Rattle.cap_model.specs.declared.refusal.Refusal.{Refusal}
-use Rattle.cap_model.specs.Flat.{Flat, App, Container, with_app, containers_on}
-use Rattle.cap_model.specs.Asking.{after_asks, after_ask, rounded_ask, put_ask}
-use Rattle.cap_model.specs.Ending.{with_ends}
-use Rattle.cap_model.specs.Submit.{new_app, submit_refusal}
-use Rattle.cap_model.specs.Allocate.{after_telling, after_wishes, after_processed_allocate, is_repeated_allocate, released_by}
-use Rattle.cap_model.specs.Heartbeat.{after_processed_heartbeat, is_repeated_heartbeat, ended_by}
-use Rattle.cap_model.specs.Replies.{refused_or, refusal_of, granted_cluster, Replies}
-use Rattle.cap_model.specs.declared.event.Event.{Event}
-use Rattle.cap_model.specs.Events.{Step, after_grant, news_of, take_one}
-use Rattle.cap_base.proofs.lists.Filters.{map_twice}
-use Rattle.cap_base.proofs.lists.Tests.{kept_if}
+use Rattle.cap_laws.proofs.Prelude.{◌≡◌, ℕ, ◌+◌, Bool, true, false, List, [], ◌∷◌, ◌++◌, refl, sym, ◌∙◌, ap, subst, inl, inr, Option, Some, None, cond, not, ◌==◌, length, ◌-◌, filter, map, if◌then◌else◌, map-id, Ask, Cause, Request, Reply, Refusal, Flat, App, Container, with_app, containers_on, after_asks, after_ask, rounded_ask, put_ask, with_ends, new_app, submit_refusal, after_telling, after_wishes, after_processed_allocate, is_repeated_allocate, released_by, after_processed_heartbeat, is_repeated_heartbeat, ended_by, refused_or, refusal_of, granted_cluster, Replies, Event, Step, after_grant, news_of, take_one, map_twice, kept_if}
 
 -- a change of an application that keeps what it is
 pub record KeepsApp (f : App → App) : Type 0 where

@@ -1,26 +1,6 @@
 -- What a Refresh sets.
-use Rattle.std.proofs.Common.{◌≡◌, ℕ, Bool, true, false, List, refl, sym, ◌∙◌, ap, subst, inl, inr}
-use Rattle.std.specs.Prelude.{Option, Some, None, IsSome, find, map, option_map, bytes_eq}
-use Rattle.std.specs.List.{list_all}
-use Rattle.std.specs.Option.{option_map_or}
-use Rattle.std.proofs.lemmas.Bool.{and_parts}
-use Rattle.std.proofs.lemmas.Slice.Eq.{bytes_eq-Decides}
-use Rattle.cap_base.specs.Settings.{QueueRow, Settings}
-use Rattle.cap_base.specs.Trees.{has_path, has_same_paths}
-use Rattle.cap_base.specs.declared.properties.fault.ConfigFault.{ConfigFault}
-use Rattle.cap_base.specs.properties.First.{first_fault, settings_in}
-use Rattle.cap_base.proofs.lists.Members.{found, all_in}
-use Rattle.cap_base.proofs.lists.Filters.{find_mapped_at, map_twice, map_same}
-use Rattle.cap_base.proofs.lists.Tests.{value_of, not_none}
-use Rattle.cap_model.specs.News.{Reply}
-use Rattle.cap_model.specs.declared.request.Request.{Request}
+use Rattle.cap_laws.proofs.Prelude.{◌≡◌, ℕ, Bool, true, false, List, refl, sym, ◌∙◌, ap, subst, inl, inr, Option, Some, None, IsSome, find, map, option_map, bytes_eq, list_all, option_map_or, and_parts, bytes_eq-Decides, QueueRow, Settings, has_path, has_same_paths, ConfigFault, first_fault, settings_in, found, all_in, find_mapped_at, map_twice, map_same, value_of, not_none, Reply, Request, Event, Flat, refreshed_queue, refreshed_settings, first_of_queue, first_of_settings, lines_refusal, has_its_queues, with_settings, after_refresh, refused_or, refusal_of, Step, IsRefreshed, RefreshSetsAll}
 use Rattle.cap_model.specs.declared.reply.ReplyWith.TheVariants as Reply
-use Rattle.cap_model.specs.declared.event.Event.{Event}
-use Rattle.cap_model.specs.Flat.{Flat}
-use Rattle.cap_model.specs.Refresh.{refreshed_queue, refreshed_settings, first_of_queue, first_of_settings, lines_refusal, has_its_queues, with_settings, after_refresh}
-use Rattle.cap_model.specs.Replies.{refused_or, refusal_of}
-use Rattle.cap_model.specs.Events.{Step}
-use Rattle.cap_laws.specs.RefreshLaws.{IsRefreshed, RefreshSetsAll}
 
 -- a queue that keeps its path is found as before
 pub find_kept : (f : QueueRow → QueueRow) → ((q : QueueRow) → (f q).path ≡ q.path) → (path : List ℕ) (qs : List QueueRow) →

@@ -1,15 +1,5 @@
 -- What is known of a node that is not refused.
-use Rattle.std.proofs.Common.{◌≡◌, ℕ, ◌<◌, Bool, true, false, List, [], ◌∷◌, length, Option, Some, None, refl, sym, inl, inr}
-use Rattle.std.specs.Prelude.{not, nat_le, bytes_eq, is_none, IsSome, is_some, ◌↔◌}
-use Rattle.std.specs.List.{list_any}
-use Rattle.std.proofs.lemmas.Bool.{cases_Bool, not-false, not-true, leb-false}
-use Rattle.cap_vector.specs.Vector.{amount_max, plus, is_within, IsWithin, IsVector, is_zero}
-use Rattle.cap_vector.proofs.AmountLemmas.{within_from_test, test_from_within}
-use Rattle.cap_base.specs.Limits.{nodes_max, number_end}
-use Rattle.cap_base.specs.Cascade.{earliest}
-use Rattle.cap_model.specs.Flat.{Flat, queue_at}
-use Rattle.cap_model.specs.Submit.{submit_refusal, has_children, is_running}
-use Rattle.cap_model.specs.RegisterNode.{register_node_refusal, total_of_nodes}
+use Rattle.cap_laws.proofs.Prelude.{◌≡◌, ℕ, ◌<◌, Bool, true, false, List, [], ◌∷◌, length, Option, Some, None, refl, sym, inl, inr, not, nat_le, bytes_eq, is_none, IsSome, is_some, ◌↔◌, list_any, cases_Bool, not-false, not-true, leb-false, amount_max, plus, is_within, IsWithin, IsVector, is_zero, within_from_test, test_from_within, nodes_max, number_end, earliest, Flat, queue_at, submit_refusal, has_children, is_running, register_node_refusal, total_of_nodes}
 
 -- no test holds
 none_of : {A : Type 0} (a b c d e : Bool) (p q r s t : A) → earliest ((a, p) ∷ (b, q) ∷ (c, r) ∷ (d, s) ∷ (e, t) ∷ []) ≡ None → (b ≡ false) × (c ≡ false) × (e ≡ false)

@@ -1,23 +1,6 @@
 -- The computed choice is the choice.
-use Rattle.std.proofs.Common.{◌≡◌, ℕ, Bool, true, false, List, [], ◌∷◌, refl, sym, ap, subst, inl, inr, arith}
-use Rattle.std.specs.Prelude.{Option, Some, None, is_none, bytes_eq, option_and_then, cond, flat_map, ◌==◌}
-use Rattle.std.specs.Option.{option_or}
-use Rattle.std.proofs.lemmas.Slice.Eq.{bytes_eq-Decides}
-use Rattle.std.proofs.lemmas.Bool.Decides.{nat_tests}
-use Rattle.cap_model.specs.Asks.{Ask, same_key}
-use Rattle.cap_model.specs.Flat.{ask_at}
-use Rattle.cap_base.specs.Cascade.{holds_of}
-use Rattle.cap_model.specs.Sight.{Sight, AppSight, NodeSight, seen_app}
-use Rattle.cap_model.specs.Admission.{NodeProposal, IsAdmissible, reason_of}
-use Rattle.cap_model.specs.declared.proposal.ProposalKind.{ProposalKind}
-use Rattle.cap_model.specs.declared.proposal.Reason.{Reason}
-use Rattle.cap_model.specs.Choice.{rank_cmp, rank_of, is_after, ring_from, IsNodeChoice, IsFirstChoice}
-use Rattle.cap_model.specs.Candidates.{proposals_of, admissible_on, sooner, first_served, choice_on, first_choice}
-use Rattle.cap_laws.specs.EngineLaws.{ChoiceIsComputed, ChoiceFromIsComputed}
-use Rattle.cap_model.proofs.choice.Orders.{rank_cmp_total, not_after_trans, not_after_other, not_after_itself}
+use Rattle.cap_laws.proofs.Prelude.{◌≡◌, ℕ, Bool, true, false, List, [], ◌∷◌, refl, sym, ap, subst, inl, inr, arith, Option, Some, None, is_none, bytes_eq, option_and_then, cond, flat_map, ◌==◌, option_or, bytes_eq-Decides, nat_tests, Ask, same_key, ask_at, holds_of, Sight, AppSight, NodeSight, seen_app, NodeProposal, IsAdmissible, reason_of, ProposalKind, Reason, rank_cmp, rank_of, is_after, ring_from, IsNodeChoice, IsFirstChoice, proposals_of, admissible_on, sooner, first_served, choice_on, first_choice, ChoiceIsComputed, ChoiceFromIsComputed, rank_cmp_total, not_after_trans, not_after_other, not_after_itself, and_parts, IsIn, found, in_filter, in_flat_map, of_filter, of_flat_map}
 use Rattle.cap_laws.proofs.choice.Reasons.{rejected_exactly}
-use Rattle.std.proofs.lemmas.Bool.{and_parts}
-use Rattle.cap_base.proofs.lists.Members.{IsIn, found, in_filter, in_flat_map, of_filter, of_flat_map}
 
 module _ {K : ℕ} (sight : Sight K) where
   -- nothing is in the list, or this is, and nothing in it is served before this

@@ -1,21 +1,5 @@
 -- What an admissible proposal is of: its application, its node and the reservation that it replaces.
-use Rattle.std.proofs.Common.{◌≡◌, ℕ, Bool, true, false, List, [], ◌∷◌, refl, sym, ◌∙◌, ap, subst, inl, inr, arith}
-use Rattle.std.specs.Prelude.{◌⊎◌, Option, Some, None, IsSome, cond, ◌&&◌, ◌==◌, filter, find, map, option_map, option_and_then, unwrap_or, bytes_eq}
-use Rattle.std.proofs.lemmas.Bool.Decides.{nat_tests}
-use Rattle.std.proofs.lemmas.Slice.Eq.{bytes_eq-Decides}
-use Rattle.cap_base.specs.Settings.{QueueRow}
-use Rattle.cap_base.specs.Cascade.{holds_of}
-use Rattle.cap_model.specs.Flat.{Flat, App, ClusterNode, Reservation, app_at, node_at, is_for, reservation_on}
-use Rattle.cap_base.specs.Paths.{is_under}
-use Rattle.cap_model.specs.Sight.{AppSight, NodeSight, QueueSight, sight_of, app_sight, node_sight, queue_sight, seen_app, seen_node, seen_queue, queues_to}
-use Rattle.cap_model.specs.Admission.{NodeProposal, is_grant, leaf_path, room_replaced, is_reserved_for, node_reservation, stays_in_maximum, stays_in_maxima}
-use Rattle.cap_base.specs.Members.{IsRising}
-use Rattle.cap_base.specs.Trees.{HasDistinctPaths}
-use Rattle.cap_base.proofs.lists.Members.{IsIn, found, of_filter, in_filter, of_map, in_map, all_in, none_in}
-use Rattle.std.proofs.lemmas.Bool.{cases_Bool}
-use Rattle.cap_base.proofs.lists.Tests.{value_of}
-use Rattle.cap_model.proofs.lists.Numbered.{found_by_number}
-use Rattle.cap_base.proofs.lists.Filters.{find_mapped_at}
+use Rattle.cap_laws.proofs.Prelude.{◌≡◌, ℕ, Bool, true, false, List, [], ◌∷◌, refl, sym, ◌∙◌, ap, subst, inl, inr, arith, ◌⊎◌, Option, Some, None, IsSome, cond, ◌&&◌, ◌==◌, filter, find, map, option_map, option_and_then, unwrap_or, bytes_eq, nat_tests, bytes_eq-Decides, QueueRow, holds_of, Flat, App, ClusterNode, Reservation, app_at, node_at, is_for, reservation_on, is_under, AppSight, NodeSight, QueueSight, sight_of, app_sight, node_sight, queue_sight, seen_app, seen_node, seen_queue, queues_to, NodeProposal, is_grant, leaf_path, room_replaced, is_reserved_for, node_reservation, stays_in_maximum, stays_in_maxima, IsRising, HasDistinctPaths, IsIn, found, of_filter, in_filter, of_map, in_map, all_in, none_in, cases_Bool, value_of, found_by_number, find_mapped_at}
 
 -- a queue of a list without repeated paths is found by its path
 pub found_by_path : (qs : List QueueRow) (q : QueueRow) → HasDistinctPaths qs → IsIn q qs → find (λ r. bytes_eq r.path q.path) qs ≡ Some q

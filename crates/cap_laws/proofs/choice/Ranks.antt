@@ -1,20 +1,5 @@
 -- No two admissible proposals of one node are of one rank.
-use Rattle.std.proofs.Common.{◌≡◌, ℕ, ◌<◌, true, List, refl, sym, ◌∙◌, ap}
-use Rattle.std.specs.Prelude.{Option, Some, None, bytes_eq, option_and_then}
-use Rattle.std.specs.Ordering.{nat_cmp, ordering_then, MatchOrdering}
-use Rattle.std.specs.declared.cmp.Ordering.{Ordering}
-use Rattle.std.specs.declared.cmp.Ordering.TheVariants.{Less, Equal, Greater}
-use Rattle.std.proofs.lemmas.Cmp.{ranked}
-use Rattle.std.proofs.lemmas.Slice.Eq.{bytes_eq-Decides}
-use Rattle.cap_model.specs.Asks.{Ask}
-use Rattle.cap_model.specs.Flat.{ask_at}
-use Rattle.cap_base.specs.Amounts.{fits}
-use Rattle.cap_base.specs.Cascade.{holds_of}
-use Rattle.cap_model.specs.Sight.{Sight, seen_app, seen_node}
-use Rattle.cap_model.specs.Admission.{NodeProposal, NeedsOf, IsAdmissible, proposed_ask, fits_free}
-use Rattle.cap_model.specs.declared.proposal.ProposalKind.{ProposalKind}
-use Rattle.cap_model.specs.Choice.{rank_cmp, rank_of}
-use Rattle.cap_laws.specs.EngineLaws.{OneOfEachRank}
+use Rattle.cap_laws.proofs.Prelude.{◌≡◌, ℕ, ◌<◌, true, List, refl, sym, ◌∙◌, ap, Option, Some, None, bytes_eq, option_and_then, nat_cmp, ordering_then, MatchOrdering, Ordering, Less, Equal, Greater, ranked, bytes_eq-Decides, Ask, ask_at, fits, holds_of, Sight, seen_app, seen_node, NodeProposal, NeedsOf, IsAdmissible, proposed_ask, fits_free, ProposalKind, rank_cmp, rank_of, OneOfEachRank}
 
 equal_numbers : (x y : ℕ) (r : Ordering) → r ≡ Equal → MatchOrdering r (x < y) (x ≡ y) (y < x) → x ≡ y
 equal_numbers x y Less e m = absurd (cc e)

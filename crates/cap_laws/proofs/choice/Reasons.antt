@@ -1,15 +1,5 @@
 -- A proposal has no reason to be rejected exactly where it is admissible.
-use Rattle.std.proofs.Common.{◌≡◌, ℕ, Bool, true, false, List, [], ◌∷◌, refl, inl, inr, arith}
-use Rattle.std.specs.Prelude.{◌⊎◌, not, ◌&&◌, ◌||◌, Option, Some, None, is_some, is_none, cond}
-use Rattle.std.proofs.lemmas.Bool.{not-false, not_from_true}
-use Rattle.std.proofs.lemmas.Bool.Decides.{nat_tests}
-use Rattle.cap_base.specs.Cascade.{earliest}
-use Rattle.cap_model.specs.Events.{grant_proposal, reserve_proposal}
-use Rattle.cap_model.specs.Sight.{Sight, sight_of, seen_app, seen_node}
-use Rattle.cap_model.specs.Admission.{NodeProposal, is_grant, IsAdmissible, NeedsOf, reasons, proposed_ask, asks_resource, suits_place, fits_free, fits_total, is_wanted, is_reserved_for, node_reservation, stays_in_maxima, stays_in_user_limit}
-use Rattle.cap_model.specs.declared.proposal.ProposalKind.{ProposalKind}
-use Rattle.cap_laws.specs.EngineLaws.{RejectedExactly, PassedIsStep}
-use Rattle.cap_base.proofs.lists.Tests.{or_left, true_of_none}
+use Rattle.cap_laws.proofs.Prelude.{◌≡◌, ℕ, Bool, true, false, List, [], ◌∷◌, refl, inl, inr, arith, ◌⊎◌, not, ◌&&◌, ◌||◌, Option, Some, None, is_some, is_none, cond, not-false, not_from_true, nat_tests, earliest, grant_proposal, reserve_proposal, Sight, sight_of, seen_app, seen_node, NodeProposal, is_grant, IsAdmissible, NeedsOf, reasons, proposed_ask, asks_resource, suits_place, fits_free, fits_total, is_wanted, is_reserved_for, node_reservation, stays_in_maxima, stays_in_user_limit, ProposalKind, RejectedExactly, PassedIsStep, or_left, true_of_none}
 
 -- no test of a list holds
 abbrev pub NoneHolds : {A : Type 0} → List (Bool × A) → Type 0

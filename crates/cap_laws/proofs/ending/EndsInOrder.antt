@@ -1,17 +1,5 @@
 -- Containers end one after the other.
-use Rattle.std.proofs.Common.{◌≡◌, ℕ, ◌+◌, Bool, true, false, List, [], ◌∷◌, ◌++◌, map, subst, refl, sym, ◌∙◌, ap, arith}
-use Rattle.std.specs.Prelude.{Option, Some, None, cond, not, ◌||◌, ◌==◌, filter, find, if◌then◌else◌}
-use Rattle.std.proofs.lemmas.Bool.Decides.{nat_tests}
-use Rattle.std.proofs.lemmas.List.{append_assoc, append-nil, map-append}
-use Rattle.std.proofs.lemmas.List.Elements.{filter-append}
-use Rattle.std.proofs.lemmas.List.Folds.{list_any-append}
-use Rattle.cap_model.specs.declared.news.Cause.{Cause}
-use Rattle.cap_model.specs.Flat.{Flat, App, Container}
-use Rattle.cap_model.specs.Ending.{is_among, with_ends, after_ends}
-use Rattle.cap_base.specs.Members.{IsRising}
-use Rattle.cap_laws.specs.EngineLaws.{container_numbers}
-use Rattle.cap_base.proofs.lists.Filters.{map_twice, filter_twice, filter_whole}
-use Rattle.cap_model.proofs.lists.Numbered.{rising_from_low, none_before}
+use Rattle.cap_laws.proofs.Prelude.{◌≡◌, ℕ, ◌+◌, Bool, true, false, List, [], ◌∷◌, ◌++◌, map, subst, refl, sym, ◌∙◌, ap, arith, Option, Some, None, cond, not, ◌||◌, ◌==◌, filter, find, if◌then◌else◌, nat_tests, append_assoc, append-nil, map-append, filter-append, list_any-append, Cause, Flat, App, Container, is_among, with_ends, after_ends, IsRising, container_numbers, map_twice, filter_twice, filter_whole, rising_from_low, none_before}
 
 not_or : (a b : Bool) → not (a || b) ≡ cond (not a) (not b) false
 not_or true b = refl

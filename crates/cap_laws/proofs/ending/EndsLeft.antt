@@ -1,19 +1,5 @@
 -- Live containers end one after the other: what is left to end, and that all have ended when nothing is left.
-use Rattle.std.proofs.Common.{◌≡◌, ℕ, ◌+◌, ◌≤◌, ◌<◌, Bool, true, false, List, [], ◌∷◌, length, get_or, drop, refl, sym, ◌∙◌, ap, inl, inr, arith}
-use Rattle.std.specs.Prelude.{Option, Some, None, cond, not, ◌==◌, ◌&&◌, nat_lt, filter, find, if◌then◌else◌}
-use Rattle.std.specs.List.{cons_option}
-use Rattle.std.proofs.lemmas.Bool.{cases_lt}
-use Rattle.std.proofs.lemmas.Bool.Decides.{nat_tests}
-use Rattle.std.proofs.lemmas.List.{at_drop_more, drop_all}
-use Rattle.cap_model.specs.declared.news.Cause.{Cause}
-use Rattle.cap_base.specs.Limits.{live_max}
-use Rattle.cap_model.specs.Flat.{Flat, Container}
-use Rattle.cap_base.specs.Members.{IsRising}
-use Rattle.cap_model.specs.Ending.{is_among, named_among, after_ends}
-use Rattle.cap_laws.specs.EngineLaws.{HasDistinctNumbers, container_numbers}
-use Rattle.cap_base.proofs.lists.Filters.{filter_twice, length-kept}
-use Rattle.cap_base.proofs.lists.Members.{found}
-use Rattle.cap_model.proofs.lists.Numbered.{found_by_number, one_completed}
+use Rattle.cap_laws.proofs.Prelude.{◌≡◌, ℕ, ◌+◌, ◌≤◌, ◌<◌, Bool, true, false, List, [], ◌∷◌, length, get_or, drop, refl, sym, ◌∙◌, ap, inl, inr, arith, Option, Some, None, cond, not, ◌==◌, ◌&&◌, nat_lt, filter, find, if◌then◌else◌, cons_option, cases_lt, nat_tests, at_drop_more, drop_all, Cause, live_max, Flat, Container, IsRising, is_among, named_among, after_ends, HasDistinctNumbers, container_numbers, filter_twice, length-kept, found, found_by_number, one_completed}
 use Rattle.cap_laws.proofs.ending.EndsInOrder.{ends_none, ends_then, find_among_some, first_passes, kept_if_passes, none_pass}
 
 -- no container has the number 0

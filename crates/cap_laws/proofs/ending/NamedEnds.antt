@@ -1,22 +1,6 @@
 -- The containers that some numbers name among others, and their ends.
-use Rattle.std.proofs.Common.{◌≡◌, ℕ, ◌+◌, Bool, true, false, List, [], ◌∷◌, refl, sym, ◌∙◌, ap, arith}
-use Rattle.std.specs.Prelude.{Option, Some, None, cond, not, ◌&&◌, ◌||◌, ◌==◌, filter, find, count_by}
-use Rattle.std.specs.List.{list_any, sum_by, cons_option}
-use Rattle.std.proofs.lemmas.Bool.Decides.{nat_tests}
-use Rattle.std.proofs.lemmas.List.Sums.{sum_by-cons}
-use Rattle.cap_model.specs.declared.news.Cause.{Cause}
-use Rattle.cap_model.specs.declared.news.End.{End}
-use Rattle.cap_model.specs.Flat.{Container}
-use Rattle.cap_model.specs.Ending.{is_among, named_among}
-use Rattle.cap_base.specs.Members.{IsRising}
-use Rattle.cap_laws.specs.EngineLaws.{container_numbers}
-use Rattle.cap_laws.specs.NewsLaws.{ends_of}
-use Rattle.cap_base.proofs.lists.Members.{found}
-use Rattle.cap_model.proofs.lists.Numbered.{rising_kept, rising_from_low}
-use Rattle.cap_base.proofs.lists.Sums.{sum_of_zeros, sum_by_map, one_where, sum_of_two, count_kept}
+use Rattle.cap_laws.proofs.Prelude.{◌≡◌, ℕ, ◌+◌, Bool, true, false, List, [], ◌∷◌, refl, sym, ◌∙◌, ap, arith, Option, Some, None, cond, not, ◌&&◌, ◌||◌, ◌==◌, filter, find, count_by, list_any, sum_by, cons_option, nat_tests, sum_by-cons, Cause, End, Container, is_among, named_among, IsRising, container_numbers, ends_of, found, rising_kept, rising_from_low, sum_of_zeros, sum_by_map, one_where, sum_of_two, count_kept, filter_same, filter_twice, twice_not, and_false, or_false}
 use Rattle.cap_laws.proofs.numbers.Balance.{among_some}
-use Rattle.cap_base.proofs.lists.Filters.{filter_same, filter_twice}
-use Rattle.cap_base.proofs.lists.Tests.{twice_not, and_false, or_false}
 
 -- whether some numbers name a container
 abbrev pub is_named : List ℕ → Container → Bool

@@ -1,10 +1,5 @@
 -- What is left of a list.
-use Rattle.std.proofs.Common.{◌≡◌, ℕ, ◌≤◌, Bool, true, false, List, [], ◌∷◌, refl, ap, subst, inl, inr, arith}
-use Rattle.std.specs.Prelude.{◌⊎◌, cond, ◌&&◌, ◌==◌, ◌-◌, filter, if◌then◌else◌}
-use Rattle.std.specs.List.{sum_by}
-use Rattle.std.proofs.lemmas.List.Sums.{sum_by-cons}
-use Rattle.cap_model.specs.Asking.{keep_first}
-use Rattle.cap_base.proofs.lists.Members.{IsIn}
+use Rattle.cap_laws.proofs.Prelude.{◌≡◌, ℕ, ◌≤◌, Bool, true, false, List, [], ◌∷◌, refl, ap, subst, inl, inr, arith, ◌⊎◌, cond, ◌&&◌, ◌==◌, ◌-◌, filter, if◌then◌else◌, sum_by, sum_by-cons, keep_first, IsIn}
 
 -- the second list is what is left of the first
 abbrev pub IsPart : {A : Type 0} → List A → List A → Type 0

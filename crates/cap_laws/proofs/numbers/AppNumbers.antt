@@ -1,17 +1,5 @@
 -- Numbers of applications: one that was used and is not there is never used again.
-use Rattle.std.proofs.Common.{◌≡◌, ℕ, ◌+◌, ◌≤◌, ◌<◌, false, List, [], ◌∷◌, refl, sym, ◌∙◌, ap, subst, inl, inr, arith}
-use Rattle.std.specs.Prelude.{◌⊎◌, Option, Some, None, IsSome, cond, not, ◌==◌, filter, find, map, option_map}
-use Rattle.std.specs.Option.{option_or}
-use Rattle.std.proofs.lemmas.Bool.{cases_Bool, cases_lt}
-use Rattle.std.proofs.lemmas.Bool.Decides.{nat_tests}
-use Rattle.std.proofs.lemmas.List.Folds.{find-append}
-use Rattle.cap_model.specs.Flat.{Flat, App, app_at}
-use Rattle.cap_model.specs.declared.event.Event.{Event}
-use Rattle.cap_model.specs.Events.{Run}
-use Rattle.cap_base.specs.Members.{IsRising}
-use Rattle.cap_laws.specs.EngineLaws.{HasAppNumbers, AppNumbersStayDistinct}
-use Rattle.cap_model.proofs.lists.Numbered.{rising_kept, rising_more, same_numbers, none_from_high, find_changed, find_others, find_gone}
-use Rattle.cap_base.proofs.lists.Tests.{not_none}
+use Rattle.cap_laws.proofs.Prelude.{◌≡◌, ℕ, ◌+◌, ◌≤◌, ◌<◌, false, List, [], ◌∷◌, refl, sym, ◌∙◌, ap, subst, inl, inr, arith, ◌⊎◌, Option, Some, None, IsSome, cond, not, ◌==◌, filter, find, map, option_map, option_or, cases_Bool, cases_lt, nat_tests, find-append, Flat, App, app_at, Event, Run, IsRising, HasAppNumbers, AppNumbersStayDistinct, rising_kept, rising_more, same_numbers, none_from_high, find_changed, find_others, find_gone, not_none}
 use Rattle.cap_laws.proofs.calls.Moves.{AppsMove, AppsChange, step_moves}
 
 abbrev number_of : App → ℕ

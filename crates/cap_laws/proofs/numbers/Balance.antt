@@ -1,26 +1,7 @@
 -- What lives and what has ended is what lived and what was granted.
-use Rattle.std.proofs.Common.{◌≡◌, ℕ, ◌+◌, ◌≤◌, ◌<◌, Bool, true, false, List, [], ◌∷◌, ◌++◌, refl, sym, ◌∙◌, ap, subst, inl, inr, arith}
-use Rattle.std.specs.Prelude.{Option, Some, None, cond, not, ◌||◌, ◌==◌, filter, count_by}
-use Rattle.std.proofs.lemmas.Bool.Decides.{nat_tests}
-use Rattle.std.proofs.lemmas.List.{append_assoc, append-nil}
-use Rattle.std.proofs.lemmas.List.Elements.{filter-append}
-use Rattle.std.proofs.lemmas.List.Folds.{list_any-append}
-use Rattle.cap_model.specs.declared.request.Request.{Request}
+use Rattle.cap_laws.proofs.Prelude.{◌≡◌, ℕ, ◌+◌, ◌≤◌, ◌<◌, Bool, true, false, List, [], ◌∷◌, ◌++◌, refl, sym, ◌∙◌, ap, subst, inl, inr, arith, Option, Some, None, cond, not, ◌||◌, ◌==◌, filter, count_by, nat_tests, append_assoc, append-nil, filter-append, list_any-append, Request, Refusal, Flat, Container, is_among, refused_or, refusal_of, granted_reply, granted_cluster, after_request, Event, Step, Run, after_event, granted_by, ever_granted, ended_between, ever_ended, is_no_memory, IsRising, container_numbers, HasDistinctNumbers, StepIsDetermined, RunLeadsToOneState, ContainersBalance, EndedOnce, LiveIsWhatWasNotEnded, IsIn, in_left, one_where, count_append, count_cons, rising_ends, rising_from_low, filter_none, filter_same, filter_twice, filter_whole, twice_not}
 use Rattle.cap_model.specs.declared.reply.ReplyWith.TheVariants as Reply
-use Rattle.cap_model.specs.declared.refusal.Refusal.{Refusal}
-use Rattle.cap_model.specs.Flat.{Flat, Container}
-use Rattle.cap_model.specs.Ending.{is_among}
-use Rattle.cap_model.specs.Replies.{refused_or, refusal_of, granted_reply, granted_cluster, after_request}
-use Rattle.cap_model.specs.declared.event.Event.{Event}
-use Rattle.cap_model.specs.Events.{Step, Run, after_event, granted_by, ever_granted, ended_between, ever_ended, is_no_memory}
-use Rattle.cap_base.specs.Members.{IsRising}
-use Rattle.cap_laws.specs.EngineLaws.{container_numbers, HasDistinctNumbers, StepIsDetermined, RunLeadsToOneState, ContainersBalance, EndedOnce, LiveIsWhatWasNotEnded}
-use Rattle.cap_base.proofs.lists.Members.{IsIn, in_left}
 use Rattle.cap_laws.proofs.numbers.ContainerNumbers.{IsThinned, reply_thins, numbers_stay_distinct, granted_once}
-use Rattle.cap_base.proofs.lists.Sums.{one_where, count_append, count_cons}
-use Rattle.cap_model.proofs.lists.Numbered.{rising_ends, rising_from_low}
-use Rattle.cap_base.proofs.lists.Filters.{filter_none, filter_same, filter_twice, filter_whole}
-use Rattle.cap_base.proofs.lists.Tests.{twice_not}
 
 -- the cluster after a step is determined by the event
 

@@ -1,22 +1,5 @@
 -- Container numbers are never used twice.
-use Rattle.std.proofs.Common.{◌≡◌, ℕ, ◌+◌, Bool, true, false, List, [], ◌∷◌, refl, sym, ◌∙◌, ap, subst, inl, inr, arith}
-use Rattle.std.specs.Prelude.{Option, Some, None, cond, not, filter}
-use Rattle.cap_model.specs.Asks.{Ask}
-use Rattle.cap_model.specs.declared.request.Request.{Request}
-use Rattle.cap_model.specs.News.{Reply}
-use Rattle.cap_model.specs.declared.refusal.Refusal.{Refusal}
-use Rattle.cap_model.specs.Flat.{Flat, Container, containers_on, containers_of}
-use Rattle.cap_model.specs.Asking.{after_asks, after_ask, rounded_ask}
-use Rattle.cap_model.specs.Ending.{is_among}
-use Rattle.cap_model.specs.Allocate.{after_processed_allocate, is_repeated_allocate, released_by}
-use Rattle.cap_model.specs.Heartbeat.{after_processed_heartbeat, is_repeated_heartbeat, ended_by}
-use Rattle.cap_model.specs.Replies.{refused_or, refusal_of, granted_cluster, Replies}
-use Rattle.cap_model.specs.declared.event.Event.{Event}
-use Rattle.cap_model.specs.Events.{Step, Run, ever_granted}
-use Rattle.cap_base.specs.Members.{IsRising}
-use Rattle.cap_laws.specs.EngineLaws.{container_numbers, HasDistinctNumbers, NumbersStayDistinct, GrantedOnce}
-use Rattle.cap_base.proofs.lists.Filters.{filter_whole}
-use Rattle.cap_model.proofs.lists.Numbered.{rising_kept, rising_more}
+use Rattle.cap_laws.proofs.Prelude.{◌≡◌, ℕ, ◌+◌, Bool, true, false, List, [], ◌∷◌, refl, sym, ◌∙◌, ap, subst, inl, inr, arith, Option, Some, None, cond, not, filter, Ask, Request, Reply, Refusal, Flat, Container, containers_on, containers_of, after_asks, after_ask, rounded_ask, is_among, after_processed_allocate, is_repeated_allocate, released_by, after_processed_heartbeat, is_repeated_heartbeat, ended_by, refused_or, refusal_of, granted_cluster, Replies, Event, Step, Run, ever_granted, IsRising, container_numbers, HasDistinctNumbers, NumbersStayDistinct, GrantedOnce, filter_whole, rising_kept, rising_more}
 
 module _ {K : ℕ} where
   -- the new cluster has the containers of the old one that pass a test, and the same next number

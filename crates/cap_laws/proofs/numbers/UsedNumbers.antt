@@ -1,18 +1,5 @@
 -- Numbers of applications and nodes that have gone are never used again.
-use Rattle.std.proofs.Common.{◌≡◌, ℕ, ◌≤◌, ◌<◌, Bool, true, false, List, [], ◌∷◌, refl, sym, ◌∙◌, ap, subst, inl, inr, arith}
-use Rattle.std.specs.Prelude.{Some, None, cond, ◌==◌, find}
-use Rattle.std.proofs.lemmas.Bool.Decides.{nat_tests}
-use Rattle.cap_model.specs.Asks.{Ask}
-use Rattle.cap_model.specs.declared.request.Request.{Request}
-use Rattle.cap_model.specs.Flat.{Flat, ClusterNode, app_at, node_at}
-use Rattle.cap_model.specs.Allocate.{after_processed_allocate, is_repeated_allocate}
-use Rattle.cap_model.specs.Heartbeat.{after_processed_heartbeat, is_repeated_heartbeat}
-use Rattle.cap_model.specs.Replies.{granted_cluster}
-use Rattle.cap_model.specs.declared.event.Event.{Event}
-use Rattle.cap_model.specs.Events.{Step, Run}
-use Rattle.cap_model.specs.Bounds.{IsWellFormed}
-use Rattle.cap_laws.specs.BoundLaws.{NumbersAreNotUsedAgain}
-use Rattle.cap_base.proofs.lists.Members.{IsIn}
+use Rattle.cap_laws.proofs.Prelude.{◌≡◌, ℕ, ◌≤◌, ◌<◌, Bool, true, false, List, [], ◌∷◌, refl, sym, ◌∙◌, ap, subst, inl, inr, arith, Some, None, cond, ◌==◌, find, nat_tests, Ask, Request, Flat, ClusterNode, app_at, node_at, after_processed_allocate, is_repeated_allocate, after_processed_heartbeat, is_repeated_heartbeat, granted_cluster, Event, Step, Run, IsWellFormed, NumbersAreNotUsedAgain, IsIn}
 use Rattle.cap_laws.proofs.calls.Moves.{step_moves}
 use Rattle.cap_laws.proofs.numbers.AppNumbers.{stays_missing}
 use Rattle.cap_laws.proofs.calls.Lessening.{lessened, asked}

@@ -1,34 +1,13 @@
 -- The ends that are told are those of the containers that ended.
-use Rattle.std.proofs.Common.{◌≡◌, ℕ, ◌+◌, ◌<◌, Bool, true, false, List, [], ◌∷◌, refl, sym, ◌∙◌, ap, subst, inl, inr, arith}
-use Rattle.std.specs.Prelude.{◌⊎◌, Option, Some, None, IsSome, cond, not, ◌&&◌, ◌==◌, filter, count_by, if◌then◌else◌}
-use Rattle.std.proofs.lemmas.Bool.Decides.{nat_tests}
-use Rattle.std.proofs.lemmas.List.{append-nil}
-use Rattle.cap_model.specs.Asks.{Ask}
-use Rattle.cap_model.specs.declared.news.Cause.{Cause}
-use Rattle.cap_model.specs.declared.news.End.{End}
-use Rattle.cap_model.specs.declared.request.Request.{Request}
+use Rattle.cap_laws.proofs.Prelude.{◌≡◌, ℕ, ◌+◌, ◌<◌, Bool, true, false, List, [], ◌∷◌, refl, sym, ◌∙◌, ap, subst, inl, inr, arith, ◌⊎◌, Option, Some, None, IsSome, cond, not, ◌&&◌, ◌==◌, filter, count_by, if◌then◌else◌, nat_tests, append-nil, Ask, Cause, End, Request, Refusal, Flat, App, Container, app_at, containers_on, containers_of, is_among, after_processed_allocate, is_repeated_allocate, released_by, after_processed_heartbeat, is_repeated_heartbeat, ended_by, refused_or, refusal_of, granted_reply, granted_cluster, Event, Step, Run, after_event, ended_between, ever_ended, IsBounded, new_ends, ends_of, ever_new_ends, NewEndsAreOfTheEnded, IsIn, sum_of_zeros, one_where, count_append, count_kept, find_gone, not_none, there_or_not}
 use Rattle.cap_model.specs.declared.reply.ReplyWith.TheVariants as Reply
-use Rattle.cap_model.specs.declared.refusal.Refusal.{Refusal}
-use Rattle.cap_model.specs.Flat.{Flat, App, Container, app_at, containers_on, containers_of}
-use Rattle.cap_model.specs.Ending.{is_among}
-use Rattle.cap_model.specs.Allocate.{after_processed_allocate, is_repeated_allocate, released_by}
-use Rattle.cap_model.specs.Heartbeat.{after_processed_heartbeat, is_repeated_heartbeat, ended_by}
-use Rattle.cap_model.specs.Replies.{refused_or, refusal_of, granted_reply, granted_cluster}
-use Rattle.cap_model.specs.declared.event.Event.{Event}
-use Rattle.cap_model.specs.Events.{Step, Run, after_event, ended_between, ever_ended}
-use Rattle.cap_model.specs.Bounds.{IsBounded}
-use Rattle.cap_laws.specs.NewsLaws.{new_ends, ends_of, ever_new_ends, NewEndsAreOfTheEnded}
-use Rattle.cap_base.proofs.lists.Members.{IsIn}
-use Rattle.cap_base.proofs.lists.Sums.{sum_of_zeros, one_where, count_append, count_kept}
 use Rattle.cap_laws.proofs.numbers.ContainerNumbers.{IsThinned, asks_keep}
 use Rattle.cap_laws.proofs.numbers.Balance.{determined, none_ended, ended_by_thinning}
 use Rattle.cap_laws.proofs.calls.Moves.{step_moves}
 use Rattle.cap_laws.proofs.numbers.AppNumbers.{used, next_rises, never_back}
 use Rattle.cap_laws.proofs.telling.Telling.{refused_tells}
 use Rattle.cap_laws.proofs.telling.ToldRuns.{not_live, ends_nothing}
-use Rattle.cap_model.proofs.lists.Numbered.{find_gone}
 use Rattle.cap_laws.proofs.bounds.BoundedRuns.{step_stays_bounded}
-use Rattle.cap_base.proofs.lists.Tests.{not_none, there_or_not}
 use Rattle.cap_laws.proofs.ending.NamedEnds.{count_ended, count_lost, count_ends, count_of}
 
 module _ (n number : ℕ) where

@@ -1,29 +1,6 @@
 -- A reply in full is what it was, and its grants and ends have room.
-use Rattle.std.proofs.Common.{◌≡◌, ℕ, ◌≤◌, ◌+◌, Bool, true, false, List, [], ◌∷◌, ◌++◌, refl, sym, ◌∙◌, ap, subst, inl, inr, arith}
-use Rattle.std.specs.Prelude.{Option, Some, None, IsSome, cond, not, ◌&&◌, ◌-◌, min, length, find, map, filter, ◌==◌, unwrap_or, option_map, option_and_then, if◌then◌else◌}
-use Rattle.std.specs.Option.{option_map_or}
-use Rattle.std.proofs.lemmas.List.{length-take, length-append, length-map}
-use Rattle.std.proofs.lemmas.List.Sums.{length-filter, count_by-le-length}
-use Rattle.std.proofs.lemmas.Bool.Decides.{nat_tests}
-use Rattle.std.specs.List.{cons_option}
-use Rattle.cap_model.specs.Asks.{Ask}
-use Rattle.cap_model.specs.News.{AllocateReply, Reply}
-use Rattle.cap_model.specs.declared.news.End.{End}
-use Rattle.cap_model.specs.declared.news.Cause.{Cause}
-use Rattle.cap_model.specs.declared.request.Request.{Request}
-use Rattle.cap_model.specs.declared.refusal.Refusal.{Refusal}
+use Rattle.cap_laws.proofs.Prelude.{◌≡◌, ℕ, ◌≤◌, ◌+◌, Bool, true, false, List, [], ◌∷◌, ◌++◌, refl, sym, ◌∙◌, ap, subst, inl, inr, arith, Option, Some, None, IsSome, cond, not, ◌&&◌, ◌-◌, min, length, find, map, filter, ◌==◌, unwrap_or, option_map, option_and_then, if◌then◌else◌, option_map_or, length-take, length-append, length-map, length-filter, count_by-le-length, nat_tests, cons_option, Ask, AllocateReply, Reply, End, Cause, Request, Refusal, news_max, Flat, App, Container, app_at, containers_of, nothing_told, after_telling, after_processed_allocate, after_wishes, kept_reply, is_repeated_allocate, released_by, Replies, refused_or, refusal_of, granted_reply, NewsRoom, news_most, HasRoomFor, IsNoAllocate, named_among, holds_of, is_repeated, ends_of, find_changed, kept_if}
 use Rattle.cap_model.specs.declared.reply.ReplyWith.TheVariants as Reply
-use Rattle.cap_base.specs.Limits.{news_max}
-use Rattle.cap_model.specs.Flat.{Flat, App, Container, app_at, containers_of}
-use Rattle.cap_model.specs.Allocate.{nothing_told, after_telling, after_processed_allocate, after_wishes, kept_reply, is_repeated_allocate, released_by}
-use Rattle.cap_model.specs.Replies.{Replies, refused_or, refusal_of, granted_reply}
-use Rattle.cap_model.specs.Reporting.{NewsRoom, news_most, HasRoomFor, IsNoAllocate}
-use Rattle.cap_model.specs.Ending.{named_among}
-use Rattle.cap_base.specs.Cascade.{holds_of}
-use Rattle.cap_model.specs.ResponseIds.{is_repeated}
-use Rattle.cap_laws.specs.NewsLaws.{ends_of}
-use Rattle.cap_model.proofs.lists.Numbered.{find_changed}
-use Rattle.cap_base.proofs.lists.Tests.{kept_if}
 use Rattle.cap_laws.proofs.telling.Telling.{its_number, its_test, allocate_tells, grants_are, ends_are}
 
 itself : (n : ℕ) → (n == n) ≡ true

@@ -1,33 +1,6 @@
 -- Grants and ends are told in order, each once.
-use Rattle.std.proofs.Common.{◌≡◌, ℕ, Bool, true, false, List, [], ◌∷◌, ◌++◌, refl, sym, ◌∙◌, ap, subst, inl, inr, arith}
-use Rattle.std.specs.Prelude.{Option, Some, None, IsSome, cond, not, ◌&&◌, ◌==◌, length, ◌-◌, find, map, filter, unwrap_or, option_map, option_and_then, if◌then◌else◌}
-use Rattle.std.specs.Option.{option_map_or, option_or}
-use Rattle.std.proofs.lemmas.Bool.{cases_Bool}
-use Rattle.std.proofs.lemmas.Bool.Decides.{nat_tests}
-use Rattle.std.proofs.lemmas.List.{take-append-drop, append-nil}
-use Rattle.std.proofs.lemmas.List.Folds.{find-append}
-use Rattle.cap_model.specs.Asks.{Ask}
-use Rattle.cap_model.specs.declared.news.Cause.{Cause}
-use Rattle.cap_model.specs.declared.news.End.{End}
-use Rattle.cap_model.specs.News.{Grant, AllocateReply}
-use Rattle.cap_model.specs.declared.request.Request.{Request}
+use Rattle.cap_laws.proofs.Prelude.{◌≡◌, ℕ, Bool, true, false, List, [], ◌∷◌, ◌++◌, refl, sym, ◌∙◌, ap, subst, inl, inr, arith, Option, Some, None, IsSome, cond, not, ◌&&◌, ◌==◌, length, ◌-◌, find, map, filter, unwrap_or, option_map, option_and_then, if◌then◌else◌, option_map_or, option_or, cases_Bool, nat_tests, take-append-drop, append-nil, find-append, Ask, Cause, End, Grant, AllocateReply, Request, Refusal, Flat, App, Container, app_at, containers_on, after_asks, after_ask, rounded_ask, put_ask, with_ends, new_app, news_max, nothing_told, news_report, after_telling, after_processed_allocate, kept_reply, is_repeated_allocate, released_by, after_processed_heartbeat, is_repeated_heartbeat, ended_by, refused_or, refusal_of, granted_reply, granted_cluster, reply_to, Event, Step, after_grant, news_of, take_one, untold_grants, told_grants, new_grants, GrantsAreToldInOrder, untold_ends, told_ends, new_ends, ends_of, EndsAreToldInOrder, found, map_twice, find_changed, find_others, find_gone, and_true, and_false, kept_if, not_none}
 use Rattle.cap_model.specs.declared.reply.ReplyWith.TheVariants as Reply
-use Rattle.cap_model.specs.declared.refusal.Refusal.{Refusal}
-use Rattle.cap_model.specs.Flat.{Flat, App, Container, app_at, containers_on}
-use Rattle.cap_model.specs.Asking.{after_asks, after_ask, rounded_ask, put_ask}
-use Rattle.cap_model.specs.Ending.{with_ends}
-use Rattle.cap_model.specs.Submit.{new_app}
-use Rattle.cap_base.specs.Limits.{news_max}
-use Rattle.cap_model.specs.Allocate.{nothing_told, news_report, after_telling, after_processed_allocate, kept_reply, is_repeated_allocate, released_by}
-use Rattle.cap_model.specs.Heartbeat.{after_processed_heartbeat, is_repeated_heartbeat, ended_by}
-use Rattle.cap_model.specs.Replies.{refused_or, refusal_of, granted_reply, granted_cluster, reply_to}
-use Rattle.cap_model.specs.declared.event.Event.{Event}
-use Rattle.cap_model.specs.Events.{Step, after_grant, news_of, take_one}
-use Rattle.cap_laws.specs.NewsLaws.{untold_grants, told_grants, new_grants, GrantsAreToldInOrder, untold_ends, told_ends, new_ends, ends_of, EndsAreToldInOrder}
-use Rattle.cap_base.proofs.lists.Members.{found}
-use Rattle.cap_base.proofs.lists.Filters.{map_twice}
-use Rattle.cap_model.proofs.lists.Numbered.{find_changed, find_others, find_gone}
-use Rattle.cap_base.proofs.lists.Tests.{and_true, and_false, kept_if, not_none}
 
 -- the application that is found by a number has it, and so the test on another number is that of the two
 pub its_number : (n : ℕ) (xs : List App) (a : App) → find (λ x. x.number == n) xs ≡ Some a → a.number ≡ n

@@ -1,30 +1,6 @@
 -- Over whole runs grants and ends are told in order, each once.
-use Rattle.std.proofs.Common.{◌≡◌, ℕ, ◌<◌, Bool, true, false, List, [], ◌∷◌, ◌++◌, refl, sym, ◌∙◌, ap, subst, inl, inr, arith}
-use Rattle.std.specs.Prelude.{◌⊎◌, Option, Some, None, IsSome, is_none, cond, not, ◌&&◌, ◌==◌, filter, find, map, if◌then◌else◌}
-use Rattle.std.specs.List.{cons_option}
-use Rattle.std.specs.Option.{option_map_or}
-use Rattle.std.proofs.lemmas.Bool.Decides.{nat_tests}
-use Rattle.std.proofs.lemmas.List.{append_assoc, append-nil, map-append}
-use Rattle.std.proofs.lemmas.List.Elements.{filter-append}
-use Rattle.cap_model.specs.Asks.{Ask}
-use Rattle.cap_model.specs.News.{Grant, Reply}
-use Rattle.cap_model.specs.declared.news.Cause.{Cause}
-use Rattle.cap_model.specs.declared.request.Request.{Request}
+use Rattle.cap_laws.proofs.Prelude.{◌≡◌, ℕ, ◌<◌, Bool, true, false, List, [], ◌∷◌, ◌++◌, refl, sym, ◌∙◌, ap, subst, inl, inr, arith, ◌⊎◌, Option, Some, None, IsSome, is_none, cond, not, ◌&&◌, ◌==◌, filter, find, map, if◌then◌else◌, cons_option, option_map_or, nat_tests, append_assoc, append-nil, map-append, filter-append, Ask, Grant, Reply, Cause, Request, Refusal, Flat, App, Container, app_at, containers_on, named_among, allocate_refusal, is_repeated_allocate, released_by, is_repeated_heartbeat, ended_by, refused_or, granted_reply, reply_to, Event, Step, Run, after_event, news_of, granted_by, ever_granted, AreThere, IsWellFormed, container_numbers, HasAppNumbers, untold_grants, told_grants, new_grants, ever_told_grants, ever_new_grants, GrantsAreToldOverRuns, NewGrantsAreOfTheGranted, untold_ends, told_ends, new_ends, ends_of, ever_told_ends, ever_new_ends, EndsAreToldOverRuns, IsIn, found, of_filter, each_of, filter_none, not_none, there_or_not}
 use Rattle.cap_model.specs.declared.reply.ReplyWith.TheVariants as Reply
-use Rattle.cap_model.specs.declared.refusal.Refusal.{Refusal}
-use Rattle.cap_model.specs.Flat.{Flat, App, Container, app_at, containers_on}
-use Rattle.cap_model.specs.Ending.{named_among}
-use Rattle.cap_model.specs.Allocate.{allocate_refusal, is_repeated_allocate, released_by}
-use Rattle.cap_model.specs.Heartbeat.{is_repeated_heartbeat, ended_by}
-use Rattle.cap_model.specs.Replies.{refused_or, granted_reply, reply_to}
-use Rattle.cap_model.specs.declared.event.Event.{Event}
-use Rattle.cap_model.specs.Events.{Step, Run, after_event, news_of, granted_by, ever_granted}
-use Rattle.cap_model.specs.Bounds.{AreThere, IsWellFormed}
-use Rattle.cap_laws.specs.EngineLaws.{container_numbers, HasAppNumbers}
-use Rattle.cap_laws.specs.NewsLaws.{untold_grants, told_grants, new_grants, ever_told_grants, ever_new_grants, GrantsAreToldOverRuns, NewGrantsAreOfTheGranted, untold_ends, told_ends, new_ends, ends_of, ever_told_ends, ever_new_ends, EndsAreToldOverRuns}
-use Rattle.cap_base.proofs.lists.Members.{IsIn, found, of_filter, each_of}
-use Rattle.cap_base.proofs.lists.Filters.{filter_none}
-use Rattle.cap_base.proofs.lists.Tests.{not_none, there_or_not}
 use Rattle.cap_laws.proofs.calls.Moves.{AppsChange, step_moves, allocate_changes, beat_changes, lost_changes, grant_change}
 use Rattle.cap_laws.proofs.numbers.AppNumbers.{app_numbers_move, never_back, stays_missing, used, next_rises, kept_change}
 use Rattle.cap_laws.proofs.numbers.Balance.{determined}

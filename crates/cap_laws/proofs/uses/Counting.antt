@@ -1,17 +1,6 @@
 -- Counting applications where one comes or goes, and what is left where none of those that count holds anything.
-use Rattle.std.proofs.Common.{◌≡◌, ℕ, ◌+◌, ◌<◌, ◌≤◌, Bool, true, false, List, [], ◌∷◌, ◌++◌, get_or, map, refl, sym, ◌∙◌, ap, inl, inr, arith}
-use Rattle.std.specs.Prelude.{Option, Some, None, cond, not, ◌==◌, find, filter, if◌then◌else◌}
-use Rattle.std.proofs.lemmas.Bool.Decides.{nat_tests}
-use Rattle.std.proofs.lemmas.List.{ext_get_or, get_or-replicate, length-replicate}
-use Rattle.cap_vector.specs.Vector.{amount, zeros}
-use Rattle.cap_model.specs.Flat.{Flat, App, Container, Reservation, app_at}
-use Rattle.cap_base.specs.Members.{IsRising}
-use Rattle.cap_base.proofs.lists.Members.{IsIn, found}
-use Rattle.cap_base.proofs.lists.Sums.{count_append, count_cons, sum_of_zeros, one_where}
-use Rattle.cap_base.proofs.lists.Filters.{filter_whole}
-use Rattle.cap_model.proofs.lists.Numbered.{rising_from_low}
+use Rattle.cap_laws.proofs.Prelude.{◌≡◌, ℕ, ◌+◌, ◌<◌, ◌≤◌, Bool, true, false, List, [], ◌∷◌, ◌++◌, get_or, map, refl, sym, ◌∙◌, ap, inl, inr, arith, Option, Some, None, cond, not, ◌==◌, find, filter, if◌then◌else◌, nat_tests, ext_get_or, get_or-replicate, length-replicate, amount, zeros, Flat, App, Container, Reservation, app_at, IsRising, IsIn, found, count_append, count_cons, sum_of_zeros, one_where, filter_whole, rising_from_low, counts, counted, use_amount}
 use Rattle.cap_laws.proofs.calls.Lessening.{IsSite}
-use Rattle.cap_model.proofs.uses.Measures.{counts, counted, use_amount}
 use Rattle.cap_laws.proofs.uses.Tallies.{Test, count_of, used_by, length_used}
 
 -- one more application

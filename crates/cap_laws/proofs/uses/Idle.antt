@@ -1,10 +1,6 @@
 -- Where nothing is live and nothing reserved, nothing is used.
-use Rattle.std.proofs.Common.{◌≡◌, ℕ, false, [], subst, inl, inr}
-use Rattle.cap_vector.specs.Vector.{zeros}
-use Rattle.cap_model.specs.Flat.{Flat, app_at}
-use Rattle.cap_base.proofs.lists.Members.{IsIn}
+use Rattle.cap_laws.proofs.Prelude.{◌≡◌, ℕ, false, [], subst, inl, inr, zeros, Flat, app_at, IsIn, counts}
 use Rattle.cap_laws.proofs.calls.Lessening.{IsSite}
-use Rattle.cap_model.proofs.uses.Measures.{counts}
 use Rattle.cap_laws.proofs.uses.Tallies.{Test, used_by}
 use Rattle.cap_laws.proofs.uses.Counting.{unused}
 

@@ -1,19 +1,6 @@
 -- A parent queue uses what its children use together.
-use Rattle.std.proofs.Common.{◌≡◌, ℕ, ◌+◌, ◌<◌, Bool, true, false, List, [], ◌∷◌, length, refl, sym, ◌∙◌, ap, arith}
-use Rattle.std.specs.Prelude.{Option, Some, None, cond, ◌&&◌, if◌then◌else◌}
-use Rattle.std.specs.List.{sum_by, count_by}
-use Rattle.std.proofs.lemmas.List.{ext_get_or}
-use Rattle.std.proofs.lemmas.List.Sums.{sum_by-cons}
-use Rattle.std.proofs.lemmas.List.FromFn.{get_or-map-range_with_len, length-map-range_with_len}
-use Rattle.cap_vector.specs.Vector.{amount, by_amount}
-use Rattle.cap_base.specs.Settings.{QueueRow}
-use Rattle.cap_base.specs.Cascade.{holds_of}
-use Rattle.cap_base.specs.Amounts.{part, sum_where}
-use Rattle.cap_model.specs.Flat.{Flat, App, app_at}
-use Rattle.cap_base.specs.Paths.{is_under, is_child_of}
-use Rattle.cap_model.specs.Uses.{Holding, holdings, queue_use}
-use Rattle.cap_laws.specs.BoundLaws.{IsInOneChild, ParentUsesChildren}
-use Rattle.cap_base.proofs.lists.Sums.{sum_by_same}
+use Rattle.cap_laws.proofs.Prelude.{◌≡◌, ℕ, ◌+◌, ◌<◌, Bool, true, false, List, [], ◌∷◌, length, refl, sym, ◌∙◌, ap, arith, Option, Some, None, cond, ◌&&◌, if◌then◌else◌, sum_by, ext_get_or, sum_by-cons, get_or-map-range_with_len, length-map-range_with_len, amount, by_amount, QueueRow, holds_of, part, sum_where, Flat, App, app_at, is_under, is_child_of, Holding, holdings, queue_use, IsInOneChild, ParentUsesChildren, sum_by_same}
+use Rattle.std.specs.List.{count_by}
 
 abbrev one_if : Bool → ℕ
 one_if b = cond b 1 0

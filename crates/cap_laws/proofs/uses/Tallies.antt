@@ -1,25 +1,6 @@
 -- The applications and the uses that count for a queue or a user, after the changes that calls make.
-use Rattle.std.proofs.Common.{◌≡◌, ℕ, ◌+◌, ◌<◌, Bool, true, false, List, [], ◌∷◌, ◌++◌, length, refl, sym, ◌∙◌, ap, subst, inl, inr, arith}
-use Rattle.std.specs.Prelude.{IsSome, cond, not, ◌==◌, ◌||◌, filter, find, map, count_by, if◌then◌else◌}
-use Rattle.std.specs.List.{sum_by}
-use Rattle.std.proofs.lemmas.List.{ext_get_or}
-use Rattle.std.proofs.lemmas.List.Sums.{sum_by-cons}
-use Rattle.std.proofs.lemmas.List.FromFn.{length-map-range_with_len}
-use Rattle.std.proofs.lemmas.Bool.Decides.{nat_tests}
-use Rattle.cap_vector.specs.Vector.{amount}
-use Rattle.cap_base.specs.Amounts.{part}
-use Rattle.cap_model.specs.declared.news.Cause.{Cause}
-use Rattle.cap_model.specs.Flat.{Flat, App, Container, Reservation, app_at}
-use Rattle.cap_model.specs.Uses.{Holding, holdings, use_of}
-use Rattle.cap_model.specs.Ending.{is_among, after_ends}
-use Rattle.cap_base.specs.Members.{IsRising}
-use Rattle.cap_laws.specs.EngineLaws.{container_numbers}
-use Rattle.cap_base.proofs.lists.Members.{IsIn}
-use Rattle.cap_base.proofs.lists.Filters.{filter_whole}
-use Rattle.cap_base.proofs.lists.Sums.{count_cons, sum_by_agree}
-use Rattle.cap_model.proofs.lists.Numbered.{rising_from_low, find_others, find_with_more}
+use Rattle.cap_laws.proofs.Prelude.{◌≡◌, ℕ, ◌+◌, ◌<◌, Bool, true, false, List, [], ◌∷◌, ◌++◌, length, refl, sym, ◌∙◌, ap, subst, inl, inr, arith, IsSome, cond, not, ◌==◌, ◌||◌, filter, find, map, count_by, if◌then◌else◌, sum_by, ext_get_or, sum_by-cons, length-map-range_with_len, nat_tests, amount, part, Cause, Flat, App, Container, Reservation, app_at, Holding, holdings, use_of, is_among, after_ends, IsRising, container_numbers, IsIn, filter_whole, count_cons, sum_by_agree, rising_from_low, find_others, find_with_more, standing, counts, counted, live_part, reserved_part, use_amount, same_counts}
 use Rattle.cap_laws.proofs.calls.Lessening.{IsSite, change_stands}
-use Rattle.cap_model.proofs.uses.Measures.{standing, counts, counted, live_part, reserved_part, use_amount, same_counts}
 use Rattle.cap_laws.proofs.calls.Moves.{KeepsApp, AppsChange, ends_change}
 
 -- which applications count: a test of the leaf queue and the user

@@ -1,19 +1,6 @@
 -- In a tree each parent queue uses what its children use together.
-use Rattle.std.proofs.Common.{◌≡◌, ℕ, Bool, true, false, List, ◌∷◌, ◌++◌, refl, sym, ◌∙◌, ap, subst, inl, inr}
-use Rattle.std.specs.Prelude.{◌⊎◌, IsSome, cond, ◌==◌, ◌&&◌, find, bytes_eq, count_by, if◌then◌else◌}
-use Rattle.std.proofs.lemmas.Slice.Eq.{bytes_eq-Decides}
-use Rattle.cap_base.specs.Settings.{QueueRow}
-use Rattle.cap_model.specs.Flat.{Flat, App, queue_at}
-use Rattle.cap_base.specs.Paths.{is_under, is_child_of}
-use Rattle.cap_model.specs.Submit.{has_children}
-use Rattle.cap_model.specs.Bounds.{IsSumOfChildren, IsLeaf, IsWellFormed}
-use Rattle.cap_laws.specs.BoundLaws.{IsInOneChild, TreesAddUp}
-use Rattle.cap_base.proofs.lists.Members.{found, each_of, of_each}
-use Rattle.std.proofs.lemmas.Bool.{and_parts, and_from, cases_Bool}
-use Rattle.cap_base.proofs.lists.Sums.{sum_of_zeros}
+use Rattle.cap_laws.proofs.Prelude.{◌≡◌, ℕ, Bool, true, false, List, ◌∷◌, ◌++◌, refl, sym, ◌∙◌, ap, subst, inl, inr, ◌⊎◌, IsSome, cond, ◌==◌, ◌&&◌, find, bytes_eq, count_by, if◌then◌else◌, bytes_eq-Decides, QueueRow, Flat, App, queue_at, is_under, is_child_of, has_children, IsSumOfChildren, IsLeaf, IsWellFormed, IsInOneChild, TreesAddUp, found, each_of, of_each, and_parts, and_from, cases_Bool, sum_of_zeros, value_of, same_test, IsUnder, under_is, is_under_it, child_to, its_child, child_leads, only_child, under_parent, counted_once}
 use Rattle.cap_laws.proofs.uses.Parents.{parent_uses_children}
-use Rattle.cap_base.proofs.lists.Tests.{value_of, same_test}
-use Rattle.cap_base.proofs.paths.Paths.{IsUnder, under_is, is_under_it, child_to, its_child, child_leads, only_child, under_parent, counted_once}
 
 abbrev leads : List ℕ → List ℕ → QueueRow → Bool
 leads path leaf child = is_child_of path child.path && is_under child.path leaf

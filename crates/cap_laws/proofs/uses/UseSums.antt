@@ -1,27 +1,6 @@
 -- Uses are sums: at most twice what the nodes have together.
-use Rattle.std.proofs.Common.{◌≡◌, ℕ, ◌+◌, ◌≤◌, ◌<◌, Bool, true, false, List, [], ◌∷◌, refl, sym, ◌∙◌, ap, inl, inr, arith}
-use Rattle.std.specs.Prelude.{Option, Some, None, IsSome, cond, ◌==◌, find, if◌then◌else◌}
-use Rattle.std.specs.List.{sum_by}
-use Rattle.std.proofs.lemmas.Bool.{cases_lt}
-use Rattle.std.proofs.lemmas.Bool.Decides.{nat_tests}
-use Rattle.std.proofs.lemmas.List.FromFn.{length-map-range_with_len}
-use Rattle.std.proofs.lemmas.List.Sums.{sum_by-cons, sum_by-le-sum_by}
-use Rattle.cap_vector.specs.Vector.{amount}
-use Rattle.cap_base.specs.Cascade.{holds_of}
-use Rattle.cap_base.specs.Amounts.{fits, part}
-use Rattle.cap_model.specs.Flat.{Flat, App, ClusterNode, Container, Reservation, app_at, node_at}
-use Rattle.cap_base.specs.Paths.{is_under}
-use Rattle.cap_model.specs.Uses.{Holding, holdings, use_of, node_held}
-use Rattle.cap_model.specs.RegisterNode.{total_of_nodes}
-use Rattle.cap_model.specs.Bounds.{AreApart, IsNodeBounded, IsReservationBounded, AreThere, IsBounded}
-use Rattle.cap_laws.specs.BoundLaws.{UsesAreSums}
-use Rattle.cap_base.proofs.lists.Members.{IsIn, found, each_of}
-use Rattle.cap_model.proofs.lists.Numbered.{found_by_number}
-use Rattle.cap_base.proofs.lists.Sums.{sum_of_two}
-use Rattle.cap_model.proofs.uses.Measures.{counts, counted, use_amount, use_past, held_amount}
-use Rattle.cap_base.proofs.Amounts.{fits_amounts, amount_of}
+use Rattle.cap_laws.proofs.Prelude.{◌≡◌, ℕ, ◌+◌, ◌≤◌, ◌<◌, Bool, true, false, List, [], ◌∷◌, refl, sym, ◌∙◌, ap, inl, inr, arith, Option, Some, None, IsSome, cond, ◌==◌, find, if◌then◌else◌, sum_by, cases_lt, nat_tests, length-map-range_with_len, sum_by-cons, sum_by-le-sum_by, amount, holds_of, fits, part, Flat, App, ClusterNode, Container, Reservation, app_at, node_at, is_under, Holding, holdings, use_of, node_held, total_of_nodes, AreApart, IsNodeBounded, IsReservationBounded, AreThere, IsBounded, UsesAreSums, IsIn, found, each_of, found_by_number, sum_of_two, counts, counted, use_amount, use_past, held_amount, fits_amounts, amount_of, value_of}
 use Rattle.cap_laws.proofs.bounds.Growing.{in_sum}
-use Rattle.cap_base.proofs.lists.Tests.{value_of}
 use Rattle.cap_laws.proofs.bounds.Wanting.{none_there}
 
 pub if_less : (b : Bool) (n : ℕ) → (if b then n else 0) ≤ n

@@ -1,16 +1,5 @@
 -- Looking asks up after they were replaced or counted down.
-use Rattle.std.proofs.Common.{◌≡◌, ℕ, ◌-◌, ◌≤◌, ◌<◌, Bool, true, false, List, [], ◌∷◌, refl, sym, ◌∙◌, ap, inl, inr, arith}
-use Rattle.std.specs.Prelude.{◌⊎◌, Option, Some, None, cond, not, ◌&&◌, ◌==◌, filter, length, if◌then◌else◌}
-use Rattle.std.specs.Ordering.{is_lt}
-use Rattle.std.proofs.lemmas.Bool.Decides.{nat_tests}
-use Rattle.cap_model.specs.declared.ask.Key.{Key}
-use Rattle.cap_model.specs.Asks.{same_key, ask_key_cmp, Ask}
-use Rattle.cap_model.specs.Flat.{ask_at}
-use Rattle.cap_model.specs.Asking.{without_key, with_ask, put_ask, keep_first}
-use Rattle.cap_model.specs.Events.{take_one}
-use Rattle.cap_base.proofs.lists.Members.{IsIn, of_filter}
-use Rattle.cap_base.proofs.lists.Tests.{first_is}
-use Rattle.std.proofs.lemmas.Bool.{and_parts, cases_Bool, and_from, not-true}
+use Rattle.cap_model.proofs.Prelude.{◌≡◌, ℕ, ◌-◌, ◌≤◌, ◌<◌, Bool, true, false, List, [], ◌∷◌, refl, sym, ◌∙◌, ap, inl, inr, arith, ◌⊎◌, Option, Some, None, cond, not, ◌&&◌, ◌==◌, filter, length, if◌then◌else◌, is_lt, nat_tests, Key, same_key, ask_key_cmp, Ask, ask_at, without_key, with_ask, put_ask, keep_first, take_one, IsIn, of_filter, first_is, and_parts, cases_Bool, and_from, not-true}
 
 pub same_key_is : (a b : Key) → same_key a b ≡ true → a ≡ b
 same_key_is a b h =

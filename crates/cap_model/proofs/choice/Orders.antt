@@ -1,14 +1,5 @@
 -- The order of ranks is total.
-use Rattle.std.specs.Prelude.{◌≡◌, true, false}
-use Rattle.std.specs.Ordering.{is_gt, ordering_reverse}
-use Rattle.std.specs.declared.cmp.Ordering.{Ordering}
-use Rattle.std.specs.declared.cmp.Ordering.TheVariants.{Less, Equal, Greater}
-use Rattle.std.specs.Cmp.{IsTotalOrder}
-use Rattle.std.proofs.Common.{refl, sym, ◌∙◌, ap}
-use Rattle.std.proofs.lemmas.Cmp.{nat_cmp_total, lists_total, on_total, then_total}
-use Rattle.cap_base.proofs.Levels.{level_cmp_total}
-use Rattle.cap_model.specs.Asks.{ask_key_cmp}
-use Rattle.cap_model.specs.Choice.{rank_cmp}
+use Rattle.cap_model.proofs.Prelude.{◌≡◌, true, false, is_gt, ordering_reverse, Ordering, Less, Equal, Greater, IsTotalOrder, refl, sym, ◌∙◌, ap, nat_cmp_total, lists_total, on_total, then_total, level_cmp_total, ask_key_cmp, rank_cmp}
 
 pub ask_key_cmp_total : IsTotalOrder ask_key_cmp
 ask_key_cmp_total = then_total (on_total (λ k. k.priority) nat_cmp_total) (on_total (λ k. k.request) nat_cmp_total)

@@ -1,15 +1,5 @@
 -- Lists whose numbers rise, and looking up by number.
-use Rattle.std.proofs.Common.{◌≡◌, ℕ, ◌+◌, ◌≤◌, ◌<◌, Bool, true, false, List, [], ◌∷◌, ◌++◌, refl, sym, ◌∙◌, ap, inl, inr, arith}
-use Rattle.std.specs.Prelude.{◌||◌, Option, Some, None, IsSome, option_map, cond, not, ◌==◌, filter, find, map}
-use Rattle.std.specs.Option.{option_or}
-use Rattle.std.proofs.lemmas.List.Folds.{find-append}
-use Rattle.std.proofs.lemmas.Bool.Decides.{nat_tests}
-use Rattle.cap_model.specs.Ending.{is_among}
-use Rattle.cap_model.specs.Flat.{Container}
-use Rattle.cap_base.proofs.lists.Filters.{filter_same}
-use Rattle.cap_base.proofs.lists.Tests.{numbers_turned}
-use Rattle.cap_base.specs.Members.{IsRising}
-use Rattle.cap_base.proofs.lists.Members.{IsIn}
+use Rattle.cap_model.proofs.Prelude.{◌≡◌, ℕ, ◌+◌, ◌≤◌, ◌<◌, Bool, true, false, List, [], ◌∷◌, ◌++◌, refl, sym, ◌∙◌, ap, inl, inr, arith, ◌||◌, Option, Some, None, IsSome, option_map, cond, not, ◌==◌, filter, find, map, option_or, find-append, nat_tests, is_among, Container, filter_same, numbers_turned, IsRising, IsIn}
 
 pub rising_low : (a b : ℕ) (ns : List ℕ) (high : ℕ) → a ≤ b → IsRising b ns high → IsRising a ns high
 rising_low a b [] high h r = omega arith

@@ -1,15 +1,5 @@
 -- Uses and what nodes hold, amount by amount.
-use Rattle.std.proofs.Common.{◌≡◌, ℕ, ◌+◌, ◌≤◌, ◌<◌, Bool, List, refl, sym, ◌∙◌, ap}
-use Rattle.std.specs.Prelude.{Option, option_map, Some, None, ◌==◌, map, if◌then◌else◌}
-use Rattle.std.specs.List.{sum_by}
-use Rattle.std.proofs.lemmas.List.Sums.{sum_by-append}
-use Rattle.cap_vector.specs.Vector.{amount}
-use Rattle.cap_base.specs.Cascade.{holds_of}
-use Rattle.cap_base.specs.Amounts.{part}
-use Rattle.cap_model.specs.Flat.{Flat, App, Container, Reservation, app_at}
-use Rattle.cap_model.specs.Uses.{Holding, holdings, of_container, of_reservation, use_of, node_held}
-use Rattle.cap_base.proofs.Amounts.{amount_of, amount_past}
-use Rattle.cap_base.proofs.lists.Sums.{sum_by_map}
+use Rattle.cap_model.proofs.Prelude.{◌≡◌, ℕ, ◌+◌, ◌≤◌, ◌<◌, Bool, List, refl, sym, ◌∙◌, ap, Option, option_map, Some, None, ◌==◌, map, if◌then◌else◌, sum_by, sum_by-append, amount, holds_of, part, Flat, App, Container, Reservation, app_at, Holding, holdings, of_container, of_reservation, use_of, node_held, amount_of, amount_past, sum_by_map}
 
 -- the leaf queue and the user of an application
 abbrev pub standing : Option App → Option (List ℕ × List ℕ)

@@ -1,7 +1,4 @@
-use Rattle.std.proofs.Common.{true, false, ap, sym, ◌∙◌, length, map, arith}
-use Rattle.std.proofs.lemmas.List.Edits.{length-insert}
-use Rattle.std.specs.Prelude.{insert, remove}
-use Rattle.cap_asks.specs.Apps.{put_number}
+use Rattle.cap_asks.proofs.Prelude.{true, false, ap, sym, ◌∙◌, length, map, arith, length-insert, insert, remove, put_number}
 use Rattle.cap_asks.proofs.Slots.{map_insert, map_remove}
 use Rattle.cap_asks.proofs.Waiters.{put_found, put_absent}
 use Rattle.cap_asks.proofs.apps.set_waiting.Goals as goal

@@ -1,5 +1,4 @@
-use Rattle.std.proofs.Common.{sym, ◌≡◌, ◌-◌, ◌∙◌, ap, arith}
-use Rattle.cap_base.specs.properties.Queues.{names_below}
+use Rattle.cap_config.proofs.Prelude.{sym, ◌≡◌, ◌-◌, ◌∙◌, ap, arith, names_below}
 use Rattle.cap_config.proofs.Found.{path_below}
 use Rattle.cap_config.proofs.RowLists.{rows_none, rows_all}
 use Rattle.cap_config.proofs.config.+add_queues.Goals as goal

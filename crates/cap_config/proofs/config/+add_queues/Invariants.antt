@@ -1,7 +1,4 @@
-use Rattle.std.proofs.Common.{◌≡◌, ◌-◌, ◌++◌, ◌∷◌, take}
-use Rattle.std.specs.List.{flat_map}
-use Rattle.cap_base.specs.properties.Queues.{child}
-use Rattle.cap_base.specs.properties.Rows.{row_of, rows_under}
+use Rattle.cap_config.proofs.Prelude.{◌≡◌, ◌-◌, ◌++◌, ◌∷◌, take, flat_map, child, row_of, rows_under}
 use Rattle.cap_config.proofs.config.+add_queues.Given as goal
 
 abbrev pub decreases-add_queues : goal.decreases-add_queues

@@ -1,7 +1,4 @@
-use Rattle.std.proofs.Common.{Option, ◌∙◌, ap, arith}
-use Rattle.cap_base.specs.declared.properties.entry.Entry.{Entry}
-use Rattle.cap_base.specs.declared.properties.setting.Setting.TheVariants.{MaximumApplications}
-use Rattle.cap_base.specs.properties.Tests.{number_or}
+use Rattle.cap_config.proofs.Prelude.{Option, ◌∙◌, ap, arith, Entry, MaximumApplications, number_or}
 use Rattle.cap_config.proofs.Found.{number_small}
 use Rattle.cap_config.proofs.config.application_limit.Goals as goal
 

@@ -1,10 +1,4 @@
-use Rattle.std.proofs.Common.{rules, arith, sym, subst, ◌≡◌, ◌≤◌}
-use Rattle.std.specs.Prelude.{List, length}
-use Rattle.cap_base.specs.Limits.{applications_max, queues_max}
-use Rattle.cap_base.specs.Settings.{QueueRow}
-use Rattle.cap_base.specs.Listing.{IsListing}
-use Rattle.cap_base.specs.properties.Keys.{root}
-use Rattle.cap_base.specs.properties.Rows.{rows_under}
+use Rattle.cap_config.proofs.Prelude.{rules, arith, sym, subst, ◌≡◌, ◌≤◌, List, length, applications_max, queues_max, QueueRow, IsListing, root, rows_under}
 use Rattle.cap_config.proofs.Listing.{rows_are_listing}
 use Rattle.cap_config.proofs.RowAmounts.{minimum_is_resource, maximum_is_resource}
 use Rattle.cap_config.proofs.RowBounds.{few_rows}

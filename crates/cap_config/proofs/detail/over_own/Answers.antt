@@ -1,8 +1,4 @@
-use Rattle.std.proofs.Common.{◌∙◌, ap, None, Option}
-use Rattle.cap_base.specs.declared.properties.entry.Entry.{Entry}
-use Rattle.cap_base.specs.declared.properties.setting.Setting.TheVariants.{MaximumCapacity}
-use Rattle.cap_config.specs.Details.{over_own, over_some, limit_of}
-use Rattle.cap_base.specs.properties.Queues.{amounts_at, entry_for}
+use Rattle.cap_config.proofs.Prelude.{◌∙◌, ap, None, Option, Entry, MaximumCapacity, over_own, over_some, limit_of, amounts_at, entry_for}
 use Rattle.cap_config.proofs.Trees.{entry_found}
 use Rattle.cap_config.proofs.detail.over_own.Goals as goal
 

@@ -1,5 +1,4 @@
-use Rattle.std.proofs.Common.{sym, ◌∙◌}
-use Rattle.std.proofs.lemmas.Bool.{not-true, not-false}
+use Rattle.cap_config.proofs.Prelude.{sym, ◌∙◌, not-true, not-false}
 use Rattle.cap_config.proofs.NextLine.{entry_no_parts, entry_no_key, entry_repeated, entry_no_value, entry_good}
 use Rattle.cap_config.proofs.first_pass.entry_of.Goals as goal
 

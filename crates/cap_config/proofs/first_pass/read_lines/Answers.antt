@@ -1,9 +1,4 @@
-use Rattle.std.proofs.Common.{◌≡◌, ◌+◌, ◌++◌, ◌∷◌, [], sym, ◌∙◌, ap, true, false, List, arith}
-use Rattle.std.specs.Str.Lines.{lines}
-use Rattle.std.proofs.lemmas.Result.{err_from_is_err_and}
-use Rattle.std.proofs.lemmas.Bool.Decides.{nat_tests}
-use Rattle.cap_base.specs.declared.properties.entry.Entry.{Entry}
-use Rattle.cap_base.specs.properties.Entries.{read_after, entry_of, is_passed_over, key_text, read_lines}
+use Rattle.cap_config.proofs.Prelude.{◌≡◌, ◌+◌, ◌++◌, ◌∷◌, [], sym, ◌∙◌, ap, true, false, List, arith, lines, err_from_is_err_and, nat_tests, Entry, read_after, entry_of, is_passed_over, key_text, read_lines}
 use Rattle.cap_config.proofs.NextLine.{after_passed, after_entry, after_fault, after_all, lines_none, fails_after}
 use Rattle.cap_config.proofs.first_pass.read_lines.Goals as goal
 

@@ -1,7 +1,4 @@
-use Rattle.std.proofs.Common.{◌≡◌, ◌+◌, ◌≤◌, List, ℕ, length}
-use Rattle.std.specs.Str.Lines.{lines}
-use Rattle.cap_base.specs.properties.Entries.{read_after, read_lines}
-use Rattle.cap_base.specs.properties.Seen.{HasAll}
+use Rattle.cap_config.proofs.Prelude.{◌≡◌, ◌+◌, ◌≤◌, List, ℕ, length, lines, read_after, read_lines, HasAll}
 use Rattle.cap_config.proofs.first_pass.read_lines.Given as goal
 
 -- what all lines set is what those that are left set after those so far

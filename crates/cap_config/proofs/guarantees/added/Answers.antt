@@ -1,7 +1,4 @@
-use Rattle.std.proofs.Common.{arith, ◌+◌, get_or}
-use Rattle.std.proofs.lemmas.List.FromFn.{fill_by_all}
-use Rattle.cap_base.specs.Limits.{resources}
-use Rattle.cap_config.specs.Details.{capped}
+use Rattle.cap_config.proofs.Prelude.{arith, ◌+◌, get_or, fill_by_all, resources, capped}
 use Rattle.cap_config.proofs.guarantees.added.Goals as goal
 
 pub returns : goal.returns

@@ -1,6 +1,4 @@
-use Rattle.std.proofs.Common.{◌≡◌, ◌+◌, ℕ, ◌<◌, get_or, length}
-use Rattle.cap_base.specs.Limits.{resources}
-use Rattle.cap_config.specs.Details.{capped}
+use Rattle.cap_config.proofs.Prelude.{◌≡◌, ◌+◌, ℕ, ◌<◌, get_or, length, resources, capped}
 use Rattle.cap_config.proofs.guarantees.added.Given as goal
 
 -- the sums of the amounts so far

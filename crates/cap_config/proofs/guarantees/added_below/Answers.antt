@@ -1,7 +1,4 @@
-use Rattle.std.proofs.Common.{◌≡◌, ◌∙◌, ap}
-use Rattle.std.proofs.lemmas.List.{take_all}
-use Rattle.cap_base.specs.properties.Queues.{guaranteed, child}
-use Rattle.cap_config.specs.Details.{added_below}
+use Rattle.cap_config.proofs.Prelude.{◌≡◌, ◌∙◌, ap, take_all, guaranteed, child, added_below}
 use Rattle.cap_config.proofs.Sums.{sums_more}
 use Rattle.cap_config.proofs.guarantees.added_below.Goals as goal
 

@@ -1,5 +1,4 @@
-use Rattle.std.proofs.Common.{◌≡◌, take}
-use Rattle.cap_config.specs.Details.{added_below}
+use Rattle.cap_config.proofs.Prelude.{◌≡◌, take, added_below}
 use Rattle.cap_config.proofs.guarantees.added_below.Given as goal
 
 -- the sums for the names so far

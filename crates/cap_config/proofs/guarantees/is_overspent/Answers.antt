@@ -1,8 +1,4 @@
-use Rattle.std.proofs.Common.{sym, ap, ◌∙◌}
-use Rattle.std.specs.Str.{bytes_eq}
-use Rattle.cap_base.specs.properties.Keys.{root}
-use Rattle.cap_base.specs.properties.Queues.{guaranteed}
-use Rattle.cap_base.specs.properties.Tests.{exceeds}
+use Rattle.cap_config.proofs.Prelude.{sym, ap, ◌∙◌, bytes_eq, root, guaranteed, exceeds}
 use Rattle.cap_config.proofs.Sums.{capped_spend}
 use Rattle.cap_config.proofs.guarantees.is_overspent.Goals as goal
 

@@ -1,11 +1,4 @@
-use Rattle.std.proofs.Common.{◌-◌, arith, sym, ◌∙◌, ap, cond, Some, nat_cmp, Bool, Option, drop}
-use Rattle.std.specs.Prelude.{find}
-use Rattle.std.specs.BTreeMap.{get_by}
-use Rattle.std.specs.Cmp.Lexicographic.{slice_cmp}
-use Rattle.std.specs.Str.{bytes_eq}
-use Rattle.std.proofs.lemmas.Map.Text.{btree_map_updates_str}
-use Rattle.cap_base.specs.declared.properties.entry.Entry.{Entry}
-use Rattle.cap_base.specs.properties.Queues.{is_entry_for, is_path_at}
+use Rattle.cap_config.proofs.Prelude.{◌-◌, arith, sym, ◌∙◌, ap, cond, Some, nat_cmp, Bool, Option, drop, find, get_by, slice_cmp, bytes_eq, btree_map_updates_str, Entry, is_entry_for, is_path_at}
 use Rattle.cap_config.proofs.Places.{found_after, find_before}
 use Rattle.cap_config.proofs.index.places_of.Goals as goal
 

@@ -1,5 +1,4 @@
-use Rattle.std.proofs.Common.{◌≤◌, length, drop}
-use Rattle.cap_config.specs.Index.{FindsAll}
+use Rattle.cap_config.proofs.Prelude.{◌≤◌, length, drop, FindsAll}
 use Rattle.cap_config.proofs.index.places_of.Given as goal
 
 -- the entries from here on

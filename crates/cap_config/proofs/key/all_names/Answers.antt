@@ -1,7 +1,4 @@
-use Rattle.std.proofs.Common.{rules, tests}
-use Rattle.std.proofs.lemmas.Iterator.Search.{all_from_yields_List}
-use Rattle.std.proofs.lemmas.Iterator.Splits.{YieldsList-from_slice_split}
-use Rattle.cap_base.specs.properties.Keys.{is_dot, is_name}
+use Rattle.cap_config.proofs.Prelude.{rules, tests, all_from_yields_List, YieldsList-from_slice_split, is_dot, is_name}
 use Rattle.cap_config.proofs.key.all_names.Goals as goal
 
 pub returns : goal.returns

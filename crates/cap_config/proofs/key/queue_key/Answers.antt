@@ -1,7 +1,4 @@
-use Rattle.std.proofs.Common.{◌≡◌, Some, None, sym, ◌∙◌, ap, true}
-use Rattle.std.specs.Prelude.{nat_eq}
-use Rattle.std.specs.List.{starts_with}
-use Rattle.cap_base.specs.properties.Keys.{prefix, key_at}
+use Rattle.cap_config.proofs.Prelude.{◌≡◌, Some, None, sym, ◌∙◌, ap, true, nat_eq, starts_with, prefix, key_at}
 use Rattle.cap_config.proofs.QueueKeys.{queue_key_at}
 use Rattle.cap_config.proofs.key.queue_key.Goals as goal
 

@@ -1,5 +1,4 @@
-use Rattle.std.proofs.Common.{◌≡◌, ◌≤◌, length, drop, None}
-use Rattle.cap_base.specs.properties.Keys.{last_dot}
+use Rattle.cap_config.proofs.Prelude.{◌≡◌, ◌≤◌, length, drop, None, last_dot}
 use Rattle.cap_config.proofs.key.split_last_dot.Given as goal
 
 -- no dot from here on

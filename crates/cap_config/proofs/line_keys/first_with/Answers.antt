@@ -1,10 +1,4 @@
-use Rattle.std.proofs.Common.{◌≡◌, rules, tests, ap, ◌∙◌, ◌+◌}
-use Rattle.std.specs.Prelude.{◌==◌}
-use Rattle.std.specs.List.{position}
-use Rattle.std.specs.Option.{option_map}
-use Rattle.std.proofs.lemmas.Iterator.Search.{position_from_yields_List}
-use Rattle.std.proofs.lemmas.Iterator.Splits.{YieldsList-from_slice_split}
-use Rattle.cap_config.specs.LineKeys.{first_with, pieces, shows}
+use Rattle.cap_config.proofs.Prelude.{◌≡◌, rules, tests, ap, ◌∙◌, ◌+◌, ◌==◌, position, option_map, position_from_yields_List, YieldsList-from_slice_split, first_with, pieces, shows}
 use Rattle.cap_config.proofs.line_keys.first_with.Goals as goal
 
 pub returns : goal.returns

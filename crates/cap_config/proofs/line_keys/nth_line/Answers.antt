@@ -1,9 +1,4 @@
-use Rattle.std.proofs.Common.{◌≡◌, ◌-◌, false, rules, tests, arith}
-use Rattle.std.specs.Prelude.{◌==◌}
-use Rattle.std.proofs.lemmas.Bool.Decides.{nat_tests}
-use Rattle.std.proofs.lemmas.Iterator.Consumers.{nth_from_yields_List}
-use Rattle.std.proofs.lemmas.Iterator.Splits.{YieldsList-from_slice_split}
-use Rattle.cap_config.specs.LineKeys.{nth_line}
+use Rattle.cap_config.proofs.Prelude.{◌≡◌, ◌-◌, false, rules, tests, arith, ◌==◌, nat_tests, nth_from_yields_List, YieldsList-from_slice_split, nth_line}
 use Rattle.cap_config.proofs.line_keys.nth_line.Goals as goal
 
 pub returns : goal.returns

@@ -1,7 +1,4 @@
-use Rattle.std.proofs.Common.{◌≡◌, ◌++◌, ◌∷◌, [], true, not, sym, ap, ◌∙◌, refl, ℕ, List}
-use Rattle.std.specs.Prelude.{◌||◌}
-use Rattle.std.specs.Str.{bytes_eq}
-use Rattle.cap_base.specs.properties.Seen.{contains_bytes}
+use Rattle.cap_config.proofs.Prelude.{◌≡◌, ◌++◌, ◌∷◌, [], true, not, sym, ap, ◌∙◌, refl, ℕ, List, ◌||◌, bytes_eq, contains_bytes}
 use Rattle.cap_config.proofs.Among.{among_push}
 use Rattle.cap_config.proofs.NameLists.{name_under_some, name_under_none}
 use Rattle.cap_config.proofs.names.add_name.Goals as goal

@@ -1,9 +1,4 @@
-use Rattle.std.proofs.Common.{◌≡◌, ◌++◌, ◌∷◌, [], ◌<◌, length, true, false, Some, sym, ap, ◌∙◌, arith, eqb, List, ℕ}
-use Rattle.std.specs.List.{slice_split}
-use Rattle.std.proofs.lemmas.Bool.Decides.{nat_tests}
-use Rattle.cap_text.specs.Pieces.{trimmed_bytes}
-use Rattle.cap_base.specs.properties.Values.{is_next}
-use Rattle.cap_text.proofs.Cuts.{cut_shorter}
+use Rattle.cap_config.proofs.Prelude.{◌≡◌, ◌++◌, ◌∷◌, [], ◌<◌, length, true, false, Some, sym, ap, ◌∙◌, arith, eqb, List, ℕ, slice_split, nat_tests, trimmed_bytes, is_next, cut_shorter}
 use Rattle.cap_config.proofs.NameLists.{names_from, names_for_is, cut_yes, cut_no, last_yes, last_no}
 use Rattle.cap_config.proofs.names.names_for.Goals as goal
 

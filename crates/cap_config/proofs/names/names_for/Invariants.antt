@@ -1,6 +1,4 @@
-use Rattle.std.proofs.Common.{◌≡◌, [], eqb, length}
-use Rattle.std.specs.List.{slice_split}
-use Rattle.cap_base.specs.properties.Seen.{HasAll}
+use Rattle.cap_config.proofs.Prelude.{◌≡◌, [], eqb, length, slice_split, HasAll}
 use Rattle.cap_config.proofs.NameLists.{names_from}
 use Rattle.cap_config.proofs.names.names_for.Given as goal
 

@@ -1,7 +1,4 @@
-use Rattle.std.proofs.Common.{sym, ◌∙◌, ap, None, Option}
-use Rattle.cap_base.specs.declared.properties.entry.Entry.{Entry}
-use Rattle.cap_base.specs.declared.properties.setting.Setting.TheVariants.{Capacity}
-use Rattle.cap_base.specs.properties.Queues.{amounts_at, or_zero}
+use Rattle.cap_config.proofs.Prelude.{sym, ◌∙◌, ap, None, Option, Entry, Capacity, amounts_at, or_zero}
 use Rattle.cap_config.proofs.Trees.{entry_found}
 use Rattle.cap_config.proofs.queues.guaranteed.Goals as goal
 

@@ -1,7 +1,4 @@
-use Rattle.std.proofs.Common.{◌∙◌, ap, Option}
-use Rattle.cap_base.specs.declared.properties.entry.Entry.{Entry}
-use Rattle.cap_base.specs.declared.properties.setting.Setting.TheVariants.{State}
-use Rattle.cap_base.specs.properties.Rows.{running_or}
+use Rattle.cap_config.proofs.Prelude.{◌∙◌, ap, Option, Entry, State, running_or}
 use Rattle.cap_config.proofs.Trees.{entry_found}
 use Rattle.cap_config.proofs.queues.is_running.Goals as goal
 

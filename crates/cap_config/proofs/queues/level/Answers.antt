@@ -1,6 +1,4 @@
-use Rattle.std.proofs.Common.{◌+◌, ap, sym, ◌∙◌}
-use Rattle.std.proofs.lemmas.List.Splits.{length-slice_split}
-use Rattle.cap_base.specs.properties.Keys.{is_dot}
+use Rattle.cap_config.proofs.Prelude.{◌+◌, ap, sym, ◌∙◌, length-slice_split, is_dot}
 use Rattle.cap_config.proofs.queues.level.Goals as goal
 
 pub returns : goal.returns

@@ -1,8 +1,4 @@
-use Rattle.std.proofs.Common.{◌∙◌, ap, Option}
-use Rattle.cap_base.specs.declared.properties.entry.Entry.{Entry}
-use Rattle.cap_base.specs.declared.properties.setting.Setting.TheVariants.{Queues}
-use Rattle.cap_base.specs.properties.Seen.{contains_bytes}
-use Rattle.cap_base.specs.properties.Queues.{names_or_none}
+use Rattle.cap_config.proofs.Prelude.{◌∙◌, ap, Option, Entry, Queues, contains_bytes, names_or_none}
 use Rattle.cap_config.proofs.Trees.{entry_found}
 use Rattle.cap_config.proofs.queues.lists.Goals as goal
 

@@ -1,7 +1,4 @@
-use Rattle.std.proofs.Common.{◌≡◌, sym, ◌∙◌, ap, None, Some, Option}
-use Rattle.cap_base.specs.declared.properties.entry.Entry.{Entry}
-use Rattle.cap_base.specs.declared.properties.setting.Setting.TheVariants.{MaximumCapacity}
-use Rattle.cap_base.specs.properties.Queues.{amounts_at, entry_for}
+use Rattle.cap_config.proofs.Prelude.{◌≡◌, sym, ◌∙◌, ap, None, Some, Option, Entry, MaximumCapacity, amounts_at, entry_for}
 use Rattle.cap_config.proofs.Above.{parent_is, no_parent}
 use Rattle.cap_config.proofs.Trees.{entry_found, maximum_own, maximum_inherited, maximum_at_top}
 use Rattle.cap_config.proofs.queues.maximum.Goals as goal

@@ -1,5 +1,4 @@
-use Rattle.std.proofs.Common.{◌≡◌, length}
-use Rattle.cap_base.specs.properties.Queues.{maximum}
+use Rattle.cap_config.proofs.Prelude.{◌≡◌, length, maximum}
 use Rattle.cap_config.proofs.queues.maximum.Given as goal
 
 -- the path has the maximum of what is left

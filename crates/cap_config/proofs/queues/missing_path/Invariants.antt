@@ -1,7 +1,4 @@
-use Rattle.std.proofs.Common.{◌≡◌, length}
-use Rattle.std.specs.Option.{option_map}
-use Rattle.cap_base.specs.properties.Queues.{above}
-use Rattle.cap_config.specs.Details.{missing_path, missing_from}
+use Rattle.cap_config.proofs.Prelude.{◌≡◌, length, option_map, above, missing_path, missing_from}
 use Rattle.cap_config.proofs.queues.missing_path.Given as goal
 
 -- the last path that was not listed so far

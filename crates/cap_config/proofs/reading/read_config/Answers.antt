@@ -1,11 +1,4 @@
-use Rattle.std.proofs.Common.{◌∙◌, ap, sym, subst, Ok, Option}
-use Rattle.std.specs.Str.Lines.{lines}
-use Rattle.std.proofs.lemmas.Result.{IfOk-weaker, err_from_is_err_and}
-use Rattle.cap_base.specs.declared.properties.fault.ConfigFault.{ConfigFault}
-use Rattle.cap_config.specs.Bounds.{are_bounded}
-use Rattle.cap_base.specs.properties.Entries.{read_lines}
-use Rattle.cap_base.specs.properties.First.{AnswersFault, first_fault, settings_after}
-use Rattle.cap_base.specs.properties.Tests.{whole_fault}
+use Rattle.cap_config.proofs.Prelude.{◌∙◌, ap, sym, subst, Ok, Option, lines, IfOk-weaker, err_from_is_err_and, ConfigFault, are_bounded, read_lines, AnswersFault, first_fault, settings_after, whole_fault}
 use Rattle.cap_config.proofs.Kept.{lines_kept}
 use Rattle.cap_config.proofs.Firsts.{early_by_line, early_by_shape, line_fault, settings_are}
 use Rattle.cap_config.proofs.reading.read_config.Goals as goal

@@ -1,6 +1,4 @@
-use Rattle.std.proofs.Common.{sym, ◌∙◌}
-use Rattle.cap_base.specs.declared.properties.setting.Setting.TheVariants.{Queues}
-use Rattle.cap_base.specs.properties.Keys.{root}
+use Rattle.cap_config.proofs.Prelude.{sym, ◌∙◌, Queues, root}
 use Rattle.cap_config.proofs.FirstLines.{childless_root, childless_later}
 use Rattle.cap_config.proofs.Trees.{entry_found}
 use Rattle.cap_config.proofs.second_pass.no_child_line.Goals as goal

@@ -1,6 +1,4 @@
-use Rattle.std.proofs.Common.{◌≡◌, ◌+◌, ◌<◌, ◌≤◌, sym, ◌∙◌, ap, arith, true, false, ltb}
-use Rattle.std.proofs.lemmas.Bool.Decides.{nat_tests}
-use Rattle.cap_base.specs.properties.Tests.{listed_by}
+use Rattle.cap_config.proofs.Prelude.{◌≡◌, ◌+◌, ◌<◌, ◌≤◌, sym, ◌∙◌, ap, arith, true, false, ltb, nat_tests, listed_by}
 use Rattle.cap_config.proofs.FirstLines.{past_here, past_later, past_nowhere}
 use Rattle.cap_config.proofs.second_pass.too_many_line.Goals as goal
 

@@ -1,5 +1,4 @@
-use Rattle.std.proofs.Common.{◌≡◌, ◌≤◌, drop}
-use Rattle.cap_base.specs.properties.Tests.{line_past}
+use Rattle.cap_config.proofs.Prelude.{◌≡◌, ◌≤◌, drop, line_past}
 use Rattle.cap_config.proofs.second_pass.too_many_line.Given as goal
 
 -- so many queues so far

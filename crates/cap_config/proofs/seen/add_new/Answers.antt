@@ -1,7 +1,5 @@
-use Rattle.std.proofs.Common.{refl}
+use Rattle.cap_config.proofs.Prelude.{refl, bytes_eq, hash_map_updates_str}
 use Rattle.std.specs.HashMap.{get_by}
-use Rattle.std.specs.Str.{bytes_eq}
-use Rattle.std.proofs.lemmas.Map.Text.{hash_map_updates_str}
 use Rattle.cap_config.proofs.Among.{there_after}
 use Rattle.cap_config.proofs.seen.add_new.Goals as goal
 

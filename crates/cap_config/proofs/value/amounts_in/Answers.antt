@@ -1,5 +1,4 @@
-use Rattle.std.proofs.Common.{refl, ◌∙◌}
-use Rattle.cap_base.specs.properties.Values.{amounts_in}
+use Rattle.cap_config.proofs.Prelude.{refl, ◌∙◌, amounts_in}
 use Rattle.cap_config.proofs.value.amounts_in.Goals as goal
 
 pub returns : goal.returns

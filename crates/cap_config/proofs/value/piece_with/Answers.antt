@@ -1,9 +1,4 @@
-use Rattle.std.proofs.Common.{rules, tests}
-use Rattle.std.specs.Prelude.{◌==◌, nat_eq}
-use Rattle.std.specs.List.{starts_with}
-use Rattle.std.proofs.lemmas.Iterator.Search.{find_from_yields_List}
-use Rattle.std.proofs.lemmas.Iterator.Splits.{YieldsList-from_slice_split}
-use Rattle.cap_text.specs.Pieces.{trimmed_bytes}
+use Rattle.cap_config.proofs.Prelude.{rules, tests, ◌==◌, nat_eq, starts_with, find_from_yields_List, YieldsList-from_slice_split, trimmed_bytes}
 use Rattle.cap_config.proofs.Parts.{found_piece}
 use Rattle.cap_config.proofs.value.piece_with.Goals as goal
 

@@ -1,12 +1,4 @@
-use Rattle.std.proofs.Common.{List, ◌≡◌, refl, sym, subst, ◌∙◌, ap, length, map, take}
-use Rattle.std.specs.Prelude.{Some, None}
-use Rattle.std.specs.List.{slice_get}
-use Rattle.std.proofs.lemmas.Option.{slice_get_read}
-use Rattle.cap_model.specs.Sight.{NodeSight}
-use Rattle.cap_copy.specs.AskEntry.{AskEntry}
-use Rattle.cap_copy.specs.AskRanges.{AreRanges, IsRangeOf}
-use Rattle.cap_copy.specs.Entries.{beside, beside_one}
-use Rattle.cap_copy.specs.SeenApp.{range_in}
+use Rattle.cap_copy.proofs.Prelude.{List, ◌≡◌, refl, sym, subst, ◌∙◌, ap, length, map, take, Some, None, slice_get, slice_get_read, NodeSight, AskEntry, AreRanges, IsRangeOf, beside, beside_one, range_in}
 use Rattle.cap_copy.proofs.Fitting.{reservation_of_few, seen_ask_of_few}
 use Rattle.cap_copy.proofs.Ranging.{inside_range}
 use Rattle.cap_copy.proofs.Reserving.{free_more, held_more, none_beside_all, not_there, ranges_beside}

@@ -1,5 +1,4 @@
-use Rattle.std.proofs.Common.{◌≡◌, map, take}
-use Rattle.cap_copy.specs.Entries.{beside}
+use Rattle.cap_copy.proofs.Prelude.{◌≡◌, map, take, beside}
 use Rattle.cap_copy.proofs.asks.take_reserved.Given as goal
 
 abbrev pub invariant-loop-node : goal.invariant-loop-node

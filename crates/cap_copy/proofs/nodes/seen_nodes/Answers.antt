@@ -1,13 +1,5 @@
 use Rattle.cap_copy.proofs.Fitting.{reservation_by_nodes}
-use Rattle.std.proofs.lemmas.List.{take_all}
-use Rattle.cap_nodes.proofs.Sizes.{amounts_fit, load_fits, node_fits, present_fits}
-use Rattle.std.proofs.Common.{◌≡◌, ◌++◌, ◌∷◌, [], ap, sym, ◌∙◌, arith, map}
-use Rattle.std.specs.Prelude.{Some, find, ◌==◌}
-use Rattle.cap_vector.specs.Vector.{less}
-use Rattle.cap_model.specs.Flat.{ClusterNode}
-use Rattle.cap_model.specs.Uses.{held_on}
-use Rattle.cap_nodes.specs.Tables.{free_on, left_of}
-use Rattle.cap_copy.specs.Taking.{node_seen}
+use Rattle.cap_copy.proofs.Prelude.{take_all, amounts_fit, load_fits, node_fits, present_fits, ◌≡◌, ◌++◌, ◌∷◌, [], ap, sym, ◌∙◌, arith, map, Some, find, ◌==◌, less, ClusterNode, held_on, free_on, left_of, node_seen}
 use Rattle.cap_copy.proofs.LoopSteps.{map_more}
 use Rattle.cap_copy.proofs.nodes.seen_nodes.Goals as goal
 

@@ -1,6 +1,4 @@
-use Rattle.std.proofs.Common.{◌≡◌, take, vec_len, vec_capacity}
-use Rattle.std.specs.Prelude.{length, map}
-use Rattle.cap_copy.specs.Taking.{node_seen}
+use Rattle.cap_copy.proofs.Prelude.{◌≡◌, take, vec_len, vec_capacity, length, map, node_seen}
 use Rattle.cap_copy.proofs.nodes.seen_nodes.Given as goal
 
 abbrev pub invariant-loop-index : goal.invariant-loop-index

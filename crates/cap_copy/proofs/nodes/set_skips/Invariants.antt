@@ -1,6 +1,4 @@
-use Rattle.std.proofs.Common.{◌≡◌, ℕ, ◌<◌, ◌≤◌, length}
-use Rattle.std.specs.Prelude.{slice_index}
-use Rattle.cap_copy.specs.Snapshot.{IsSkip}
+use Rattle.cap_copy.proofs.Prelude.{◌≡◌, ℕ, ◌<◌, ◌≤◌, length, slice_index, IsSkip}
 use Rattle.cap_copy.proofs.nodes.set_skips.Given as goal
 
 abbrev pub invariant-loop-index : goal.invariant-loop-index

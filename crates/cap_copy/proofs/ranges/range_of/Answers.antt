@@ -1,10 +1,4 @@
-use Rattle.std.proofs.Common.{◌≡◌, ℕ, ◌+◌, ◌-◌, ◌/◌, ◌<◌, ◌≤◌, ap, arith, length, map, refl, subst, sym, ◌∙◌}
-use Rattle.std.specs.Prelude.{Some}
-use Rattle.std.specs.List.{slice_get}
-use Rattle.std.proofs.lemmas.Option.{same_Some, slice_get_read}
-use Rattle.cap_copy.specs.declared.ranges.AskRange.{AskRange}
-use Rattle.cap_copy.specs.AskRanges.{IsRangeOf}
-use Rattle.cap_copy.specs.SeenApp.{SeenApp, range_in}
+use Rattle.cap_copy.proofs.Prelude.{◌≡◌, ℕ, ◌+◌, ◌-◌, ◌/◌, ◌<◌, ◌≤◌, ap, arith, length, map, refl, subst, sym, ◌∙◌, Some, slice_get, same_Some, slice_get_read, AskRange, IsRangeOf, SeenApp, range_in}
 use Rattle.cap_copy.proofs.Ranging.{above_middle, below_middle, found_at, none_at, none_past}
 use Rattle.cap_copy.proofs.ranges.range_of.Goals.{else-low-apps-via-then-low-apps+else-number-app-2, else-low-apps-via-else-low-apps}
 use Rattle.cap_copy.proofs.ranges.range_of.Goals as goal

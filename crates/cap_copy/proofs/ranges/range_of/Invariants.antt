@@ -1,8 +1,4 @@
-use Rattle.std.proofs.Common.{◌≡◌, ℕ, ◌-◌, ◌<◌, ◌≤◌, length, map}
-use Rattle.std.specs.Prelude.{Some}
-use Rattle.std.specs.List.{slice_get}
-use Rattle.cap_copy.specs.declared.ranges.AskRange.{AskRange}
-use Rattle.cap_copy.specs.SeenApp.{range_in}
+use Rattle.cap_copy.proofs.Prelude.{◌≡◌, ℕ, ◌-◌, ◌<◌, ◌≤◌, length, map, Some, slice_get, AskRange, range_in}
 use Rattle.cap_copy.proofs.ranges.range_of.Given as goal
 
 -- what stands before the one end is of earlier applications, and what stands from the other on is not

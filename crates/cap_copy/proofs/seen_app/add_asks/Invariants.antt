@@ -1,6 +1,4 @@
-use Rattle.std.proofs.Common.{◌≡◌, ◌++◌, [], take}
-use Rattle.std.specs.Prelude.{map}
-use Rattle.cap_copy.specs.Entries.{ask_entry}
+use Rattle.cap_copy.proofs.Prelude.{◌≡◌, ◌++◌, [], take, map, ask_entry}
 use Rattle.cap_copy.proofs.seen_app.add_asks.Given as goal
 
 abbrev pub invariant-loop-ask : goal.invariant-loop-ask

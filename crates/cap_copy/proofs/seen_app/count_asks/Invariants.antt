@@ -1,6 +1,4 @@
-use Rattle.std.proofs.Common.{take}
-use Rattle.std.specs.List.{All}
-use Rattle.cap_asks.specs.Accounts.{AreKept}
+use Rattle.cap_copy.proofs.Prelude.{take, All, AreKept}
 use Rattle.cap_copy.proofs.seen_app.count_asks.Given as goal
 
 abbrev pub invariant-loop-seen : goal.invariant-loop-seen

@@ -1,14 +1,4 @@
-use Rattle.std.proofs.Common.{◌≡◌, ◌<◌, ◌+◌, ◌++◌, ◌∷◌, [], List, refl, rules, sym, subst, ◌∙◌, ap, length, arith, map, take}
-use Rattle.std.specs.Prelude.{Some, option_map}
-use Rattle.std.specs.List.{slice_get}
-use Rattle.std.proofs.lemmas.Option.{slice_get-map, slice_get_read}
-use Rattle.std.proofs.lemmas.List.{length-map}
-use Rattle.cap_tree.specs.Spot.{IsPosition}
-use Rattle.cap_base.proofs.lists.Members.{each_of}
-use Rattle.cap_asks.specs.Accounts.{HeldApp}
-use Rattle.std.proofs.lemmas.List.{take_all}
-use Rattle.cap_copy.specs.Entries.{ask_entries, asks_of, indexes}
-use Rattle.cap_copy.specs.SeenApp.{AreSeen, user_used}
+use Rattle.cap_copy.proofs.Prelude.{◌≡◌, ◌<◌, ◌+◌, ◌++◌, ◌∷◌, [], List, refl, rules, sym, subst, ◌∙◌, ap, length, arith, map, take, Some, option_map, slice_get, slice_get-map, slice_get_read, length-map, IsPosition, each_of, HeldApp, take_all, ask_entries, asks_of, indexes, AreSeen, user_used}
 use Rattle.cap_copy.proofs.Fitting.{seen_app_of_few, seen_ask_of_few}
 use Rattle.cap_copy.proofs.LoopSteps.{asks_more, slice_get_in}
 use Rattle.cap_copy.proofs.Seeing.{count_seen, seen_more}

@@ -1,7 +1,4 @@
-use Rattle.std.proofs.Common.{◌≡◌, [], map, take, vec_len, vec_capacity}
-use Rattle.std.specs.Prelude.{length}
-use Rattle.cap_copy.specs.Entries.{ask_entries, indexes}
-use Rattle.cap_copy.specs.SeenApp.{AreSeen}
+use Rattle.cap_copy.proofs.Prelude.{◌≡◌, [], map, take, vec_len, vec_capacity, length, ask_entries, indexes, AreSeen}
 use Rattle.cap_copy.proofs.seen_app.seen_apps.Given as goal
 
 abbrev pub invariant-loop-index : goal.invariant-loop-index

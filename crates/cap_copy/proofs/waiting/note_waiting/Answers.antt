@@ -1,11 +1,4 @@
-use Rattle.std.proofs.Common.{◌≡◌, ◌∙◌, ◌++◌, ◌∷◌, [], ap, sym, subst, map, take, refl, arith, length}
-use Rattle.std.specs.Prelude.{Some}
-use Rattle.std.specs.List.{slice_get}
-use Rattle.std.proofs.lemmas.List.{length-map, length-take-le, take_all}
-use Rattle.std.proofs.lemmas.Option.{slice_get_read}
-use Rattle.cap_base.proofs.lists.Members.{each_of}
-use Rattle.cap_tree.specs.Spot.{IsPosition}
-use Rattle.cap_copy.specs.SeenApp.{SeenApp}
+use Rattle.cap_copy.proofs.Prelude.{◌≡◌, ◌∙◌, ◌++◌, ◌∷◌, [], ap, sym, subst, map, take, refl, arith, length, Some, slice_get, length-map, length-take-le, take_all, slice_get_read, each_of, IsPosition, SeenApp}
 use Rattle.cap_copy.proofs.LoopSteps.{map_more, slice_get_in}
 use Rattle.cap_copy.proofs.waiting.note_waiting.Goals as goal
 

@@ -1,5 +1,4 @@
-use Rattle.std.specs.Prelude.{refl}
-use Rattle.cap_vector.specs.Vector.{plus, less}
+use Rattle.cap_examples.proofs.Prelude.{refl, plus, less}
 use Rattle.cap_examples.proofs.examples.asks_are_rounded_as_in_the_examples.Goals as goal
 
 pub returns : goal.returns

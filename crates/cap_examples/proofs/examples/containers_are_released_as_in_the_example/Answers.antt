@@ -1,5 +1,4 @@
-use Rattle.std.specs.Prelude.{refl}
-use Rattle.cap_vector.specs.Vector.{plus, less}
+use Rattle.cap_examples.proofs.Prelude.{refl, plus, less}
 use Rattle.cap_examples.proofs.examples.containers_are_released_as_in_the_example.Goals as goal
 
 pub returns : goal.returns

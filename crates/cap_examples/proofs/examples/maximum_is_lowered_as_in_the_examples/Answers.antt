@@ -1,13 +1,5 @@
-use Rattle.std.proofs.Common.{◌≡◌, List, ℕ, true, [], refl, sym, ◌∙◌, ap, inl}
-use Rattle.std.specs.Prelude.{Some, None}
-use Rattle.std.specs.Option.{option_map_or}
-use Rattle.cap_vector.specs.Vector.{plus, less}
-use Rattle.cap_base.specs.properties.First.{first_fault, settings_in}
-use Rattle.cap_model.specs.declared.request.Request.{Request}
+use Rattle.cap_examples.proofs.Prelude.{◌≡◌, List, ℕ, true, [], refl, sym, ◌∙◌, ap, inl, Some, None, option_map_or, plus, less, first_fault, settings_in, Request, has_its_queues, lines_refusal, refreshed_settings, first_of_settings, after_refresh, Replies, refusal_of, refused_or, lowered_queues, six_held, lowered}
 use Rattle.cap_model.specs.declared.reply.ReplyWith.TheVariants as Reply
-use Rattle.cap_model.specs.Refresh.{has_its_queues, lines_refusal, refreshed_settings, first_of_settings, after_refresh}
-use Rattle.cap_model.specs.Replies.{Replies, refusal_of, refused_or}
-use Rattle.cap_examples.specs.ExampleRefresh.{lowered_queues, six_held, lowered}
 use Rattle.cap_examples.proofs.examples.maximum_is_lowered_as_in_the_examples.Goals as goal
 
 -- a Refresh by lines without a fault, which make these settings

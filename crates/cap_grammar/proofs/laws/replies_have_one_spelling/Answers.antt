@@ -1,5 +1,4 @@
-use Rattle.std.proofs.Common.{refl, arith}
-use Rattle.cap_grammar.specs.Spelling.{reply_bytes}
+use Rattle.cap_grammar.proofs.Prelude.{refl, arith, reply_bytes}
 use Rattle.cap_grammar.proofs.ReplyLaws.{one_reply, alike, none_lost, no_fault, one_answer, reply_is_bytes}
 use Rattle.cap_grammar.proofs.laws.replies_have_one_spelling.Goals as goal
 

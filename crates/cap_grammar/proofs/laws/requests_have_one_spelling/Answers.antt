@@ -1,6 +1,4 @@
-use Rattle.std.proofs.Common.{refl}
-use Rattle.cap_grammar.specs.Laws.{node_with_two_amounts}
-use Rattle.cap_grammar.specs.Spelling.{request_bytes}
+use Rattle.cap_grammar.proofs.Prelude.{refl, node_with_two_amounts, request_bytes}
 use Rattle.cap_grammar.proofs.RequestLaws.{one_request, one_version, two_have_one, one_in_version_one, none_in_version_two, none_begins_another, request_is_bytes}
 use Rattle.cap_grammar.proofs.laws.requests_have_one_spelling.Goals as goal
 

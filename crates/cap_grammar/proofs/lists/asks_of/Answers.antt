@@ -1,9 +1,4 @@
-use Rattle.std.proofs.Common.{length, length-append, ap, ◌∙◌, arith}
-use Rattle.std.specs.Prelude.{nat_le}
-use Rattle.std.specs.Int.{w16}
-use Rattle.cap_grammar.specs.Bodies.{ask_at}
-use Rattle.cap_base.specs.Limits.{asks_max, resources}
-use Rattle.cap_grammar.specs.Versions.{amounts_in}
+use Rattle.cap_grammar.proofs.Prelude.{length, length-append, ap, ◌∙◌, arith, nat_le, w16, ask_at, asks_max, resources, amounts_in}
 use Rattle.cap_grammar.proofs.ItemLaws.{has_items}
 use Rattle.cap_grammar.proofs.ListLaws.{counted_start, counted_fails, more_step, more_fails, more_ends}
 use Rattle.cap_grammar.proofs.lists.asks_of.Goals as goal

@@ -1,9 +1,4 @@
-use Rattle.std.proofs.Common.{◌≡◌, ◌-◌, length}
-use Rattle.std.specs.Int.{w16}
-use Rattle.cap_grammar.specs.Fields.{counted_at}
-use Rattle.cap_grammar.specs.Bodies.{ask_at}
-use Rattle.cap_base.specs.Limits.{asks_max, resources}
-use Rattle.cap_grammar.specs.Versions.{amounts_in}
+use Rattle.cap_grammar.proofs.Prelude.{◌≡◌, ◌-◌, length, w16, counted_at, ask_at, asks_max, resources, amounts_in}
 use Rattle.cap_grammar.proofs.ListLaws.{more_at}
 use Rattle.cap_grammar.proofs.lists.asks_of.Given as goal
 

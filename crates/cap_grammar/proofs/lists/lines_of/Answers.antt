@@ -1,7 +1,4 @@
-use Rattle.std.proofs.Common.{◌∙◌, refl, arith}
-use Rattle.std.specs.Int.{w32}
-use Rattle.cap_base.specs.Limits.{text_max}
-use Rattle.cap_grammar.specs.Fields.{byte_at}
+use Rattle.cap_grammar.proofs.Prelude.{◌∙◌, refl, arith, w32, text_max, byte_at}
 use Rattle.cap_grammar.proofs.ListLaws.{counted_fails, counted_bytes, counted_missing}
 use Rattle.cap_grammar.proofs.lists.lines_of.Goals as goal
 

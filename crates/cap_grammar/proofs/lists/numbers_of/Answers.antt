@@ -1,8 +1,4 @@
-use Rattle.std.proofs.Common.{length, length-append, ap, ◌∙◌, arith}
-use Rattle.std.specs.Prelude.{nat_le}
-use Rattle.std.specs.Int.{w16, w64}
-use Rattle.cap_grammar.specs.Fields.{number_at}
-use Rattle.cap_base.specs.Limits.{numbers_max}
+use Rattle.cap_grammar.proofs.Prelude.{length, length-append, ap, ◌∙◌, arith, nat_le, w16, w64, number_at, numbers_max}
 use Rattle.cap_grammar.proofs.ItemLaws.{has_items}
 use Rattle.cap_grammar.proofs.ListLaws.{counted_start, counted_fails, more_step, more_fails, more_ends}
 use Rattle.cap_grammar.proofs.lists.numbers_of.Goals as goal

@@ -1,7 +1,4 @@
-use Rattle.std.proofs.Common.{◌≡◌, ◌-◌, length}
-use Rattle.std.specs.Int.{w16, w64}
-use Rattle.cap_grammar.specs.Fields.{counted_at, number_at}
-use Rattle.cap_base.specs.Limits.{numbers_max}
+use Rattle.cap_grammar.proofs.Prelude.{◌≡◌, ◌-◌, length, w16, w64, counted_at, number_at, numbers_max}
 use Rattle.cap_grammar.proofs.ListLaws.{more_at}
 use Rattle.cap_grammar.proofs.lists.numbers_of.Given as goal
 

@@ -1,6 +1,4 @@
-use Rattle.std.proofs.Common.{◌≡◌, map}
-use Rattle.cap_grammar.specs.Shown.{shown_grant}
-use Rattle.cap_grammar.specs.Versions.{amounts_in}
+use Rattle.cap_grammar.proofs.Prelude.{◌≡◌, map, shown_grant, amounts_in}
 use Rattle.cap_grammar.proofs.news.grants_of.Given as goal
 
 -- what is read of each grant's amounts is shown

@@ -1,6 +1,4 @@
-use Rattle.std.proofs.Common.{◌≡◌, ◌≤◌, ◌+◌, ◌*◌, ◌++◌, length, drop}
-use Rattle.std.specs.List.{flat_map, AllByRecursion}
-use Rattle.cap_grammar.specs.Spelling.{end, FitsEnd}
+use Rattle.cap_grammar.proofs.Prelude.{◌≡◌, ◌≤◌, ◌+◌, ◌*◌, ◌++◌, length, drop, flat_map, AllByRecursion, end, FitsEnd}
 use Rattle.cap_grammar.proofs.news.put_ends.Given as goal
 
 -- what is written and what is to come are the whole, there is room for it, and what is written is within its bounds

@@ -1,8 +1,4 @@
-use Rattle.std.proofs.Common.{◌≡◌, List, ℕ, [], ◌∷◌, length, ap, ◌∙◌}
-use Rattle.std.specs.Int.{w32, w64, to_be_bytes}
-use Rattle.cap_model.specs.declared.ask.Key.{Key}
-use Rattle.cap_grammar.specs.Spelling.{grant, resource}
-use Rattle.cap_grammar.specs.Versions.{amounts_in}
+use Rattle.cap_grammar.proofs.Prelude.{◌≡◌, List, ℕ, [], ◌∷◌, length, ap, ◌∙◌, w32, w64, to_be_bytes, Key, grant, resource, amounts_in}
 use Rattle.cap_grammar.proofs.Appends.{seven}
 use Rattle.cap_grammar.proofs.news.put_grant.Goals as goal
 

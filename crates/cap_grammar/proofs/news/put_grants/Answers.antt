@@ -1,9 +1,4 @@
-use Rattle.std.proofs.Common.{subst, sym}
-use Rattle.std.specs.List.{AllByRecursion}
-use Rattle.std.proofs.lemmas.List.{drop_all}
-use Rattle.cap_base.specs.Limits.{resources}
-use Rattle.cap_grammar.specs.Spelling.{FitsGrant}
-use Rattle.cap_grammar.specs.Versions.{amounts_in}
+use Rattle.cap_grammar.proofs.Prelude.{subst, sym, AllByRecursion, drop_all, resources, FitsGrant, amounts_in}
 use Rattle.cap_grammar.proofs.VersionLaws.{three_at_most}
 use Rattle.cap_grammar.proofs.Lengths.{length_grants}
 use Rattle.cap_grammar.proofs.news.put_grants.Goals as goal

@@ -1,8 +1,4 @@
-use Rattle.std.proofs.Common.{◌≡◌, ◌≤◌, ◌+◌, ◌*◌, ◌++◌, length, drop}
-use Rattle.std.specs.List.{flat_map, AllByRecursion}
-use Rattle.cap_base.specs.Limits.{resources}
-use Rattle.cap_grammar.specs.Spelling.{grant, FitsGrant}
-use Rattle.cap_grammar.specs.Versions.{amounts_in}
+use Rattle.cap_grammar.proofs.Prelude.{◌≡◌, ◌≤◌, ◌+◌, ◌*◌, ◌++◌, length, drop, flat_map, AllByRecursion, resources, grant, FitsGrant, amounts_in}
 use Rattle.cap_grammar.proofs.news.put_grants.Given as goal
 
 -- what is written and what is to come are the whole, there is room for it, and what is written is within its bounds

@@ -1,6 +1,4 @@
-use Rattle.std.specs.Int.{w32, to_be_bytes}
-use Rattle.cap_grammar.specs.Spelling.{cluster_report, resource}
-use Rattle.cap_grammar.specs.Versions.{amounts_in}
+use Rattle.cap_grammar.proofs.Prelude.{w32, to_be_bytes, cluster_report, resource, amounts_in}
 use Rattle.cap_grammar.proofs.Appends.{five}
 use Rattle.cap_grammar.proofs.reports.put_cluster_report.Goals as goal
 

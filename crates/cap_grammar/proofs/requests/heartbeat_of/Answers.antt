@@ -1,6 +1,4 @@
-use Rattle.std.proofs.Common.{◌≡◌, ap, Err}
-use Rattle.std.proofs.lemmas.Result.{err_from_is_err_and}
-use Rattle.cap_grammar.specs.declared.fault.MessageFault.TheVariants.{NoMemory}
+use Rattle.cap_grammar.proofs.Prelude.{◌≡◌, ap, Err, err_from_is_err_and, NoMemory}
 use Rattle.cap_grammar.proofs.ItemLaws.{first_list}
 use Rattle.cap_grammar.proofs.requests.heartbeat_of.Goals as goal
 

@@ -1,6 +1,4 @@
-use Rattle.std.proofs.Common.{◌≡◌, ◌∙◌, sym, ap, Err}
-use Rattle.std.proofs.lemmas.Result.{err_from_is_err_and}
-use Rattle.cap_grammar.specs.declared.fault.MessageFault.TheVariants.{NoMemory}
+use Rattle.cap_grammar.proofs.Prelude.{◌≡◌, ◌∙◌, sym, ap, Err, err_from_is_err_and, NoMemory}
 use Rattle.cap_grammar.proofs.ItemLaws.{carries_items}
 use Rattle.cap_grammar.proofs.requests.request_of.Goals as goal
 

@@ -1,7 +1,4 @@
-use Rattle.std.proofs.Common.{sym, ap, ◌∙◌}
-use Rattle.cap_lanes.specs.declared.view.View.{View}
-use Rattle.cap_lanes.specs.Items.{proposals}
-use Rattle.cap_lanes.specs.ChannelRule.{lane_of}
+use Rattle.cap_lanes.proofs.Prelude.{sym, ap, ◌∙◌, View, proposals, lane_of}
 use Rattle.cap_lanes.proofs.Moves.{pushes_as}
 use Rattle.cap_lanes.proofs.Puts.{shut_put}
 use Rattle.cap_lanes.proofs.putting.put_end.Goals as goal

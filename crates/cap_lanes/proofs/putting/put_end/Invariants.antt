@@ -1,7 +1,4 @@
-use Rattle.std.proofs.Common.{◌≡◌}
-use Rattle.crossbeam_channel.specs.Ends.{sends_on}
-use Rattle.crossbeam_channel.specs.Claims.{view}
-use Rattle.cap_lanes.specs.Ends.{IsOpen}
+use Rattle.cap_lanes.proofs.Prelude.{◌≡◌, sends_on, view, IsOpen}
 use Rattle.cap_lanes.proofs.putting.put_end.Given as goal
 
 -- nothing was put yet

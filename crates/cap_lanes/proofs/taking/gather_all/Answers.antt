@@ -1,11 +1,4 @@
-use Rattle.std.proofs.Common.{◌≡◌, ◌∷◌, ◌++◌, [], List, length, ap, ◌∙◌, sym, subst, append_assoc, arith}
-use Rattle.std.proofs.lemmas.List.{append-nil}
-use Rattle.std.specs.Array.Iter.{array_into_iter_items}
-use Rattle.crossbeam_channel.specs.Ends.{sends_on}
-use Rattle.cap_lanes.specs.declared.view.View.{View}
-use Rattle.cap_lanes.specs.Sides.{WorkerSide, LanesId, AllOf, Alike}
-use Rattle.cap_lanes.specs.Ends.{lanes_id}
-use Rattle.cap_lanes.specs.ChannelRule.{taker}
+use Rattle.cap_lanes.proofs.Prelude.{◌≡◌, ◌∷◌, ◌++◌, [], List, length, ap, ◌∙◌, sym, subst, append_assoc, arith, append-nil, array_into_iter_items, sends_on, View, WorkerSide, LanesId, AllOf, Alike, lanes_id, taker}
 use Rattle.cap_lanes.proofs.Tallies.{Alike-push, length_alike}
 use Rattle.cap_lanes.proofs.taking.gather_all.Goals as goal
 

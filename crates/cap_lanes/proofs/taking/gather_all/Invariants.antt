@@ -1,10 +1,4 @@
-use Rattle.std.proofs.Common.{◌≡◌, List, ◌++◌}
-use Rattle.std.specs.Array.Iter.{array_into_iter_items}
-use Rattle.crossbeam_channel.specs.Ends.{sends_on}
-use Rattle.crossbeam_channel.specs.Claims.{view, IsSeatAt}
-use Rattle.cap_lanes.specs.declared.view.Lane.{Lane}
-use Rattle.cap_lanes.specs.ChannelRule.{taker}
-use Rattle.cap_lanes.specs.Sides.{Alike}
+use Rattle.cap_lanes.proofs.Prelude.{◌≡◌, List, ◌++◌, array_into_iter_items, sends_on, view, IsSeatAt, Lane, taker, Alike}
 use Rattle.cap_lanes.proofs.taking.gather_all.Given as goal
 
 -- the lanes of those that came

@@ -1,5 +1,4 @@
-use Rattle.std.proofs.Common.{ap}
-use Rattle.cap_lanes.specs.declared.view.View.{View}
+use Rattle.cap_lanes.proofs.Prelude.{ap, View}
 use Rattle.cap_lanes.proofs.Moves.{pops, tells}
 use Rattle.cap_lanes.proofs.Takes.{taken_flags_put, taken_put, taken_before, taken_flags_end, taken_end, taken_kept}
 use Rattle.cap_lanes.proofs.taking.take_at_once.Goals as goal

@@ -1,5 +1,4 @@
-use Rattle.std.proofs.Common.{◌∷◌, ◌++◌, [], ap, ◌∙◌, sym}
-use Rattle.cap_lanes.specs.declared.view.View.{View}
+use Rattle.cap_lanes.proofs.Prelude.{◌∷◌, ◌++◌, [], ap, ◌∙◌, sym, View}
 use Rattle.cap_lanes.proofs.Moves.{pops, tells}
 use Rattle.cap_lanes.proofs.Takes.{taken_takes, taken_flags_put, taken_put, taken_before, taken_flags_end, taken_end, taken_later, taken_kept}
 use Rattle.cap_lanes.proofs.taking.take_next.Goals as goal

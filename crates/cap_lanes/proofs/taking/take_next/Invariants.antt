@@ -1,10 +1,4 @@
-use Rattle.std.proofs.Common.{◌≡◌, ℕ, []}
-use Rattle.std.specs.Prelude.{slice_get, Some, false, true}
-use Rattle.crossbeam_channel.specs.Ends.{receives_on}
-use Rattle.crossbeam_channel.specs.Claims.{view, IsSeatAt}
-use Rattle.cap_lanes.specs.Items.{puts_in}
-use Rattle.cap_lanes.specs.ChannelRule.{taker}
-use Rattle.cap_lanes.specs.Ends.{Flags}
+use Rattle.cap_lanes.proofs.Prelude.{◌≡◌, ℕ, [], slice_get, Some, false, true, receives_on, view, IsSeatAt, puts_in, taker, Flags}
 use Rattle.cap_lanes.proofs.taking.take_next.Given as goal
 
 -- ends alone were taken so far

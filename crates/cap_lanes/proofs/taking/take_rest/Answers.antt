@@ -1,7 +1,4 @@
-use Rattle.std.proofs.Common.{ap, ◌∙◌, sym, subst, arith}
-use Rattle.cap_lanes.specs.declared.view.View.{View}
-use Rattle.crossbeam_channel.specs.Claims.{view}
-use Rattle.cap_lanes.specs.ChannelRule.{Tally}
+use Rattle.cap_lanes.proofs.Prelude.{ap, ◌∙◌, sym, subst, arith, View, view, Tally}
 use Rattle.cap_lanes.proofs.Moves.{pops, tells}
 use Rattle.cap_lanes.proofs.Tallies.{settled, each_once}
 use Rattle.cap_lanes.proofs.Takes.{so_far_none, so_far_put, so_far_end, so_far_room, weight_bound}

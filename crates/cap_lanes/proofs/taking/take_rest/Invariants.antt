@@ -1,6 +1,4 @@
-use Rattle.std.proofs.Common.{◌≤◌, ◌+◌, length, vec_capacity}
-use Rattle.crossbeam_channel.specs.Ends.{receives_on}
-use Rattle.crossbeam_channel.specs.Claims.{view, IsSeatAt}
+use Rattle.cap_lanes.proofs.Prelude.{◌≤◌, ◌+◌, length, vec_capacity, receives_on, view, IsSeatAt}
 use Rattle.cap_lanes.proofs.Tallies.{weight, IsSoFar}
 use Rattle.cap_lanes.proofs.taking.take_rest.Given as goal
 

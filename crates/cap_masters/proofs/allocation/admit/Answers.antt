@@ -1,8 +1,4 @@
-use Rattle.cap_commit.proofs.Fitting.{apps_fit, app_fits}
-use Rattle.std.proofs.Common.{true, false, refl, sym, ◌∙◌, ap, not}
-use Rattle.std.specs.Prelude.{option_and_then}
-use Rattle.cap_model.specs.Flat.{App}
-use Rattle.cap_asks.specs.Accounts.{repeated_numbers}
+use Rattle.cap_masters.proofs.Prelude.{apps_fit, app_fits, true, false, refl, sym, ◌∙◌, ap, not, option_and_then, App, repeated_numbers}
 use Rattle.cap_masters.proofs.Refused.{allocate_tests, app_shown, app_missing, repeats_it, repeats_none}
 use Rattle.cap_masters.proofs.allocation.admit.Goals as goal
 

@@ -1,5 +1,4 @@
-use Rattle.std.proofs.Common.{ap, subst, sym, ◌∙◌}
-use Rattle.cap_model.specs.Reporting.{HasNumbers, full_reply}
+use Rattle.cap_masters.proofs.Prelude.{ap, subst, sym, ◌∙◌, HasNumbers, full_reply}
 use Rattle.cap_masters.proofs.Processing.{fresh_at, fresh_is, repeated_is, answered, repeated_same, fresh_processed, no_memory}
 use Rattle.cap_masters.proofs.allocation.allocate.Goals as goal
 

@@ -1,8 +1,4 @@
-use Rattle.cap_model.specs.Allocate.{is_too_large}
-use Rattle.std.proofs.lemmas.List.{drop_all}
-use Rattle.std.specs.List.{list_any}
-use Rattle.std.proofs.Common.{◌∙◌, ap, sym}
-use Rattle.cap_commit.proofs.Fitting.{ask_in_cluster, amounts_in_cluster, limits_in_cluster}
+use Rattle.cap_masters.proofs.Prelude.{is_too_large, drop_all, list_any, ◌∙◌, ap, sym, ask_in_cluster, amounts_in_cluster, limits_in_cluster}
 use Rattle.cap_masters.proofs.TooLarge.{here, not_here, large, fitting, none_wanted}
 use Rattle.cap_masters.proofs.allocation.has_too_large.Goals as goal
 use Rattle.cap_masters.proofs.allocation.has_too_large.Goals.{else-count-gt0-via-then-count-gt0+else-not-fits, else-count-gt0-via-else-count-gt0}

@@ -1,6 +1,4 @@
-use Rattle.std.proofs.Common.{◌≡◌, drop}
-use Rattle.std.specs.List.{list_any}
-use Rattle.cap_model.specs.Allocate.{is_too_large}
+use Rattle.cap_masters.proofs.Prelude.{◌≡◌, drop, list_any, is_too_large}
 use Rattle.cap_masters.proofs.allocation.has_too_large.Given as goal
 
 abbrev pub invariant-loop-ask : goal.invariant-loop-ask

@@ -1,7 +1,4 @@
-use Rattle.cap_model.specs.Asking.{after_asks}
-use Rattle.std.proofs.lemmas.List.{take_all}
-use Rattle.std.proofs.Common.{◌∙◌, ap, arith}
-use Rattle.cap_commit.proofs.Fitting.{ask_in_cluster}
+use Rattle.cap_masters.proofs.Prelude.{after_asks, take_all, ◌∙◌, ap, arith, ask_in_cluster}
 use Rattle.cap_masters.proofs.Processing.{asks_step, room_left}
 use Rattle.cap_masters.proofs.allocation.put_asks.Goals as goal
 

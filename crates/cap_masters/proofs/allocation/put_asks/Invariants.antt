@@ -1,6 +1,4 @@
-use Rattle.std.proofs.Common.{◌≡◌, ◌+◌, ◌≤◌, length, take}
-use Rattle.cap_model.specs.Asking.{after_asks}
-use Rattle.cap_asks.specs.Apps.{ask_room}
+use Rattle.cap_masters.proofs.Prelude.{◌≡◌, ◌+◌, ◌≤◌, length, take, after_asks, ask_room}
 use Rattle.cap_masters.proofs.allocation.put_asks.Given as goal
 
 -- the asks so far were put, and there is room for the others

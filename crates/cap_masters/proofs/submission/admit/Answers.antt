@@ -1,8 +1,4 @@
-use Rattle.cap_commit.proofs.Sizes.{tree_fits}
-use Rattle.cap_commit.proofs.Fitting.{limits_in_cluster, apps_fit}
-use Rattle.std.proofs.Common.{ap, sym, ◌∙◌, length, arith}
-use Rattle.cap_model.specs.Flat.{AppTable}
-use Rattle.cap_tree.specs.Rows.{queues_of}
+use Rattle.cap_masters.proofs.Prelude.{tree_fits, limits_in_cluster, apps_fit, ap, sym, ◌∙◌, length, arith, AppTable, queues_of}
 use Rattle.cap_masters.proofs.Submitting.{is_parent, is_stopped, is_full, is_spent, is_free}
 use Rattle.cap_masters.proofs.submission.admit.Goals as goal
 

@@ -1,5 +1,4 @@
-use Rattle.std.proofs.Common.{◌≡◌, drop}
-use Rattle.cap_base.specs.Cascade.{earliest}
+use Rattle.cap_model.proofs.Prelude.{◌≡◌, drop, earliest}
 use Rattle.cap_model.proofs.proposal.first_reason.Given as goal
 
 -- no test so far holds

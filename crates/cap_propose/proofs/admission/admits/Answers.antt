@@ -1,5 +1,4 @@
-use Rattle.std.proofs.Common.{◌∙◌, sym, ap}
-use Rattle.cap_propose.specs.Proposing.{is_in_limits}
+use Rattle.cap_propose.proofs.Prelude.{◌∙◌, sym, ap, is_in_limits}
 use Rattle.cap_propose.proofs.Admitting.{without_room, elsewhere, without_numbers, over_limits, admitted}
 use Rattle.cap_propose.proofs.admission.admits.Goals as goal
 

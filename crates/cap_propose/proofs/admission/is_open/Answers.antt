@@ -1,5 +1,4 @@
-use Rattle.std.proofs.Common.{◌∙◌, sym, ap}
-use Rattle.cap_propose.specs.Proposing.{is_in_limits}
+use Rattle.cap_propose.proofs.Prelude.{◌∙◌, sym, ap, is_in_limits}
 use Rattle.cap_propose.proofs.Admitting.{closed_unwanted, closed_without_numbers, closed_over_limits, open_is}
 use Rattle.cap_propose.proofs.admission.is_open.Goals as goal
 

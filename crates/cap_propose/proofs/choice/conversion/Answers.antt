@@ -1,6 +1,4 @@
-use Rattle.std.proofs.Common.{Some, ap, ◌∙◌, subst}
-use Rattle.cap_copy.specs.Snapshot.{sight_in}
-use Rattle.cap_propose.specs.Proposing.{IsAdmittedAs, IsReservedAsk}
+use Rattle.cap_propose.proofs.Prelude.{Some, ap, ◌∙◌, subst, sight_in, IsAdmittedAs, IsReservedAsk}
 use Rattle.cap_propose.proofs.Choosing.{entry_is}
 use Rattle.cap_propose.proofs.Converting.{admitted_own, none_for, refused_there}
 use Rattle.cap_propose.proofs.choice.conversion.Goals as goal

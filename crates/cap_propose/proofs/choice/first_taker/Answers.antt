@@ -1,5 +1,4 @@
-use Rattle.std.proofs.Common.{◌∙◌, sym, subst, arith, length, ◌<◌, ◌≤◌}
-use Rattle.cap_propose.specs.Proposing.{IsPassed}
+use Rattle.cap_propose.proofs.Prelude.{◌∙◌, sym, subst, arith, length, ◌<◌, ◌≤◌, IsPassed}
 use Rattle.cap_propose.proofs.Passing.{held_more, last_turn, one_node_more, takes_here}
 use Rattle.cap_propose.proofs.choice.first_taker.Goals as goal
 

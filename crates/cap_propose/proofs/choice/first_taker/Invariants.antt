@@ -1,5 +1,4 @@
-use Rattle.std.proofs.Common.{◌-◌, ◌≤◌}
-use Rattle.cap_propose.specs.Proposing.{IsPassed}
+use Rattle.cap_propose.proofs.Prelude.{◌-◌, ◌≤◌, IsPassed}
 use Rattle.cap_propose.proofs.choice.first_taker.Given as goal
 
 abbrev pub invariant-loop-turn : goal.invariant-loop-turn

@@ -1,9 +1,7 @@
-use Rattle.std.proofs.Common.{◌<◌, length, subst, arith}
+use Rattle.cap_propose.proofs.Prelude.{◌<◌, length, subst, arith, Taker, IsFirstTaker}
 use Rattle.cap_propose.proofs.Choosing.{entry_is}
 use Rattle.cap_propose.proofs.Passing.{at_most, closed_passed}
 use Rattle.cap_propose.proofs.Walking.{all_nearer, ask_passed, ask_taken, no_asks, none_left, one_more}
-use Rattle.cap_propose.specs.declared.choice.Taker.{Taker}
-use Rattle.cap_propose.specs.Proposing.{IsFirstTaker}
 use Rattle.cap_propose.proofs.choice.nearer_taker.Goals as goal
 
 pub asks_nth-asks-requires : goal.asks_nth-asks-requires

@@ -1,6 +1,4 @@
-use Rattle.std.specs.Prelude.{◌≤◌, length}
-use Rattle.cap_copy.specs.Snapshot.{asks_between}
-use Rattle.cap_propose.specs.Proposing.{IsNearer}
+use Rattle.cap_propose.proofs.Prelude.{◌≤◌, length, asks_between, IsNearer}
 use Rattle.cap_propose.proofs.choice.nearer_taker.Given as goal
 
 abbrev pub invariant-loop-index : goal.invariant-loop-index

@@ -1,5 +1,4 @@
-use Rattle.std.proofs.Common.{◌≡◌, ◌<◌, length, subst, arith}
-use Rattle.cap_copy.specs.Snapshot.{IsSkip}
+use Rattle.cap_propose.proofs.Prelude.{◌≡◌, ◌<◌, length, subst, arith, IsSkip}
 use Rattle.cap_propose.proofs.Passing.{all_held}
 use Rattle.cap_propose.proofs.Walking.{next_within, no_more, no_next, none_walked, nothing_nearer, one_walked, with_next}
 use Rattle.cap_propose.proofs.choice.nearest_taker.Goals as goal

@@ -1,11 +1,8 @@
-use Rattle.std.proofs.Common.{sym, ap, ◌∙◌, arith, ◌<◌, length, subst}
-use Rattle.std.specs.Prelude.{◌%◌}
-use Rattle.cap_copy.specs.Snapshot.{sight_in}
+use Rattle.cap_propose.proofs.Prelude.{sym, ap, ◌∙◌, arith, ◌<◌, length, subst, ◌%◌, sight_in, proposal_by_room}
 use Rattle.cap_propose.proofs.Ring.{NoneChosen, none_at_first, node_passed, node_chosen, all_passed, within_count}
 use Rattle.cap_propose.proofs.Choosing.{node_is}
 use Rattle.cap_propose.proofs.Converting.{reservation_fits}
 use Rattle.cap_propose.proofs.Passing.{before_end, below, last_turn, node_at, passed_has_none, past_end, some_proposal}
-use Rattle.cap_propose.specs.Proposing.{proposal_by_room}
 use Rattle.cap_propose.proofs.choice.propose.Goals as goal
 
 pub returns-then-count-eq0 : goal.returns-then-count-eq0

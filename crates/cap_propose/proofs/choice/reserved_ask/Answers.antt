@@ -1,5 +1,4 @@
-use Rattle.std.proofs.Common.{◌∙◌, sym, arith, subst, ◌<◌, length}
-use Rattle.cap_copy.specs.AskRanges.{AreInside}
+use Rattle.cap_propose.proofs.Prelude.{◌∙◌, sym, arith, subst, ◌<◌, length, AreInside}
 use Rattle.cap_propose.proofs.Converting.{all_others, it_is_for, none_yet, one_other_more, reservation_fits}
 use Rattle.cap_propose.proofs.choice.reserved_ask.Goals as goal
 

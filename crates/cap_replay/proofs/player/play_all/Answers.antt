@@ -1,7 +1,4 @@
-use Rattle.std.proofs.Common.{rules, ◌≡◌, ◌<◌, ◌++◌, [], ◌∙◌, Err, inl, inr, length, arith, ap, refl}
-use Rattle.cap_session.specs.Counted.{StreamState, state_of}
-use Rattle.cap_replay.specs.Streams.{HasEnded}
-use Rattle.std.proofs.lemmas.Bool.Decides.{nat_tests}
+use Rattle.cap_replay.proofs.Prelude.{rules, ◌≡◌, ◌<◌, ◌++◌, [], ◌∙◌, Err, inl, inr, length, arith, ap, refl, StreamState, state_of, HasEnded, nat_tests}
 use Rattle.cap_replay.proofs.Results.{on_ok, reads_of_script, writes_of_script, output_of_script, still_counts}
 use Rattle.cap_replay.proofs.Lines.{starts, as_now, fault_when}
 use Rattle.cap_replay.proofs.Reading.{read_nothing, read_more, read_none, ended_since}

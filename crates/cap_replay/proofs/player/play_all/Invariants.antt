@@ -1,8 +1,4 @@
-use Rattle.std.proofs.Common.{◌≡◌, ◌+◌, List, ℕ, true}
-use Rattle.cap_text.specs.Pieces.{lacks}
-use Rattle.cap_session.specs.Counted.{state_of, CanCount}
-use Rattle.cap_replay.specs.Progress.{IsPlayed}
-use Rattle.cap_replay.specs.Streams.{IsRead}
+use Rattle.cap_replay.proofs.Prelude.{◌≡◌, ◌+◌, List, ℕ, true, lacks, state_of, CanCount, IsPlayed, IsRead}
 use Rattle.cap_replay.proofs.player.play_all.Given as goal
 
 -- what was read was played but for what is begun, each read gave bytes, and no call has failed

@@ -1,5 +1,4 @@
-use Rattle.std.proofs.Common.{◌≡◌, ◌<◌, length, arith}
-use Rattle.std.proofs.lemmas.Bool.Decides.{nat_tests}
+use Rattle.cap_replay.proofs.Prelude.{◌≡◌, ◌<◌, length, arith, nat_tests}
 use Rattle.cap_replay.proofs.Results.{on_ok}
 use Rattle.cap_replay.proofs.Lines.{ends_done, ends_done_with, ends_fault, ends_fault_with, ends_bad, ends_at_step}
 use Rattle.cap_replay.proofs.player.play_last.Goals as goal

@@ -1,8 +1,4 @@
-use Rattle.std.proofs.Common.{◌≡◌, List, ℕ, ◌++◌, length, ap, sym, ◌∙◌, subst, arith}
-use Rattle.std.specs.Str.Lines.{strip_carriage_return}
-use Rattle.std.proofs.lemmas.Bool.Decides.{nat_tests}
-use Rattle.std.proofs.lemmas.List.{nil_from_length}
-use Rattle.cap_replay.specs.Progress.{MayNotFollow, FailsAtStep}
+use Rattle.cap_replay.proofs.Prelude.{◌≡◌, List, ℕ, ◌++◌, length, ap, sym, ◌∙◌, subst, arith, strip_carriage_return, nat_tests, nil_from_length, MayNotFollow, FailsAtStep}
 use Rattle.cap_replay.proofs.player.play_line.Goals as goal
 
 pub returns-then-is_empty-clause-bad : goal.returns-then-is_empty-clause-bad

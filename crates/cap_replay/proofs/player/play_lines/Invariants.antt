@@ -1,6 +1,4 @@
-use Rattle.std.proofs.Common.{◌≡◌, ◌++◌, List, ℕ, length, true}
-use Rattle.cap_text.specs.Pieces.{lacks}
-use Rattle.cap_replay.specs.Progress.{IsPlayed}
+use Rattle.cap_replay.proofs.Prelude.{◌≡◌, ◌++◌, List, ℕ, length, true, lacks, IsPlayed}
 use Rattle.cap_replay.proofs.player.play_lines.Given as goal
 
 -- what is begun and what is left stand after the lines that were played

@@ -1,5 +1,4 @@
-use Rattle.std.proofs.Common.{inl, inr, arith}
-use Rattle.cap_session.specs.Counted.{state_of}
+use Rattle.cap_replay.proofs.Prelude.{inl, inr, arith, state_of}
 use Rattle.cap_replay.proofs.Results.{from_ok, by_refusal, input_stopped, stopped_input}
 use Rattle.cap_replay.proofs.player.replay_with_words.Goals as goal
 

@@ -1,5 +1,4 @@
-use Rattle.std.proofs.Common.{◌≡◌, ◌++◌, take}
-use Rattle.cap_replay.specs.Print.{blanked}
+use Rattle.cap_replay.proofs.Prelude.{◌≡◌, ◌++◌, take, blanked}
 use Rattle.cap_replay.proofs.print.put_numbers.Given as goal
 
 abbrev pub invariant-loop-number : goal.invariant-loop-number

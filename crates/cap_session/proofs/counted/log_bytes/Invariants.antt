@@ -1,5 +1,4 @@
-use Rattle.std.proofs.Common.{◌≡◌, ◌++◌, take}
-use Rattle.cap_session.specs.Counted.{bytes_in}
+use Rattle.cap_session.proofs.Prelude.{◌≡◌, ◌++◌, take, bytes_in}
 use Rattle.cap_session.proofs.counted.log_bytes.Given as goal
 
 abbrev pub invariant-loop-byte : goal.invariant-loop-byte

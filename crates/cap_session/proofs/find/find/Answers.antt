@@ -1,9 +1,4 @@
-use Rattle.std.proofs.Common.{◌≡◌, [], ◌∷◌, Err, ap, refl, subst, ◌∙◌}
-use Rattle.cap_grammar.specs.declared.fault.MessageFault.{MessageFault}
-use Rattle.cap_grammar.specs.declared.fault.MessageFault.TheVariants.{Bad}
-use Rattle.cap_base.specs.Limits.{resources}
-use Rattle.cap_grammar.specs.Spelling.{IsNoRequest}
-use Rattle.cap_session.specs.Asked.{ReadResult, IsReadFrom}
+use Rattle.cap_session.proofs.Prelude.{◌≡◌, [], ◌∷◌, Err, ap, refl, subst, ◌∙◌, MessageFault, Bad, resources, IsNoRequest, ReadResult, IsReadFrom}
 use Rattle.cap_session.proofs.SessionSteps.{bad_none, bad_more, starved_after}
 use Rattle.cap_session.proofs.find.find.Goals as goal
 

@@ -1,5 +1,4 @@
-use Rattle.cap_frames.specs.History.{bytes_to_come}
-use Rattle.cap_session.specs.Kept.{AnswersAllBad}
+use Rattle.cap_session.proofs.Prelude.{bytes_to_come, AnswersAllBad}
 use Rattle.cap_session.proofs.find.find.Given as goal
 
 -- the payloads so far were no requests

@@ -1,9 +1,4 @@
-use Rattle.std.proofs.Common.{◌≡◌, ◌++◌, ◌∷◌, [], List, Ok, ap, ap₂, sym, ◌∙◌, length, length-append, arith}
-use Rattle.cap_base.specs.Limits.{resources}
-use Rattle.cap_model.specs.declared.request.Request.{Request}
-use Rattle.cap_frames.specs.History.{after_gift}
-use Rattle.cap_session.specs.Asked.{PayloadLog, ReadResult, first_open, first_payload}
-use Rattle.cap_session.specs.Session.{OpenRequest}
+use Rattle.cap_session.proofs.Prelude.{◌≡◌, ◌++◌, ◌∷◌, [], List, Ok, ap, ap₂, sym, ◌∙◌, length, length-append, arith, resources, Request, after_gift, PayloadLog, ReadResult, first_open, first_payload, OpenRequest}
 use Rattle.cap_session.proofs.ReadingAhead.{reads_more, reads_refused, has_room}
 use Rattle.cap_session.proofs.payloads.read_all.Goals as goal
 

@@ -1,7 +1,4 @@
-use Rattle.std.proofs.Common.{◌≤◌, length, None}
-use Rattle.cap_frames.specs.History.{IsReading, bytes_to_come}
-use Rattle.cap_session.specs.Payloads.{ReadsAhead}
-use Rattle.cap_session.specs.declared.payloads.TheConstants.{AHEAD_MAX}
+use Rattle.cap_session.proofs.Prelude.{◌≤◌, length, None, IsReading, bytes_to_come, ReadsAhead, AHEAD_MAX}
 use Rattle.cap_session.proofs.payloads.read_all.Given as goal
 
 -- what was read so far

@@ -1,6 +1,4 @@
-use Rattle.std.proofs.Common.{◌≡◌, length, ap, sym, ◌∙◌}
-use Rattle.cap_model.specs.Reporting.{HasRoomForReplies, NewsRoom, news_most}
-use Rattle.cap_commit.proofs.Viewing.{has_some}
+use Rattle.cap_shared.proofs.Prelude.{◌≡◌, length, ap, sym, ◌∙◌, HasRoomForReplies, NewsRoom, news_most, has_some}
 use Rattle.cap_shared.proofs.call_room.news_rooms.Goals as goal
 
 pub returns : goal.returns

@@ -1,15 +1,4 @@
-use Rattle.std.proofs.Common.{List, subst, sym}
-use Rattle.std.proofs.lemmas.List.{map-append}
-use Rattle.cap_base.specs.Limits.{resources}
-use Rattle.cap_model.specs.Flat.{opened_cluster}
-use Rattle.cap_model.specs.declared.event.Event.{Event}
-use Rattle.cap_model.specs.Events.{Run}
-use Rattle.cap_model.specs.Risen.{LimitsAreMetOrNotRisen}
-use Rattle.cap_laws.proofs.bounds.BoundedRuns.{opened_is_bounded}
-use Rattle.cap_laws.proofs.bounds.Risen.{states_of_runs}
-use Rattle.cap_shared.specs.declared.entry.Entry.{Entry}
-use Rattle.cap_shared.specs.Journal.{events_in}
-use Rattle.cap_shared.specs.Laws.{JournalsStayBounded}
+use Rattle.cap_shared.proofs.Prelude.{List, subst, sym, map-append, resources, opened_cluster, Event, Run, LimitsAreMetOrNotRisen, opened_is_bounded, states_of_runs, Entry, events_in, JournalsStayBounded}
 use Rattle.cap_shared.proofs.laws.journals_stay_bounded.Goals as goal
 
 bounded_journals : JournalsStayBounded

@@ -1,6 +1,4 @@
-use Rattle.cap_base.specs.Limits.{resources}
-use Rattle.cap_model.specs.Sight.{sight_of}
-use Rattle.cap_laws.proofs.choice.Reasons.{rejected_exactly}
+use Rattle.cap_shared.proofs.Prelude.{resources, sight_of, rejected_exactly}
 use Rattle.cap_shared.proofs.making.make_proposed.Goals as goal
 
 pub returns-then-is_err-clause-admissible : goal.returns-then-is_err-clause-admissible

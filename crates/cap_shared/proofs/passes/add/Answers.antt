@@ -1,8 +1,4 @@
-use Rattle.std.proofs.Common.{[], ap, sym, ◌∙◌, subst}
-use Rattle.atomic_table.specs.Table.{Me}
-use Rattle.cap_shared.specs.declared.history.View.{View}
-use Rattle.cap_shared.specs.declared.history.Mark.{Mark}
-use Rattle.cap_shared.specs.WordRule.{addition_of, keeper, sitting_of, only_first, with_guest}
+use Rattle.cap_shared.proofs.Prelude.{[], ap, sym, ◌∙◌, subst, Me, View, Mark, addition_of, keeper, sitting_of, only_first, with_guest}
 use Rattle.cap_shared.proofs.Moves.{splits, joins, adds, may_add, MayAdd}
 use Rattle.cap_shared.proofs.passes.add.Goals as goal
 

@@ -1,9 +1,4 @@
-use Rattle.std.proofs.Common.{◌≡◌, suc, [], ◌∷◌, ◌++◌, length, true, ap, sym, ◌∙◌, arith, zero-add, add-one}
-use Rattle.std.specs.Prelude.{ℕ}
-use Rattle.atomic_table.specs.Table.{Me}
-use Rattle.cap_shared.specs.declared.history.View.{View}
-use Rattle.cap_shared.specs.declared.history.Mark.{Mark}
-use Rattle.cap_shared.specs.WordRule.{view_of, sitting, sitting_of, fresh, only_first, without_first}
+use Rattle.cap_shared.proofs.Prelude.{◌≡◌, suc, [], ◌∷◌, ◌++◌, length, true, ap, sym, ◌∙◌, arith, zero-add, add-one, ℕ, Me, View, Mark, view_of, sitting, sitting_of, fresh, only_first, without_first}
 use Rattle.cap_shared.proofs.Lists.{fresh-push, length-fresh, fresh-step}
 use Rattle.cap_shared.proofs.Moves.{splits}
 use Rattle.cap_shared.proofs.Pasts.{seat_fresh}

@@ -1,5 +1,4 @@
-use Rattle.std.proofs.Common.{◌≡◌, ◌-◌, ◌≤◌, [], true, vec_capacity}
-use Rattle.cap_shared.specs.WordRule.{view_of, fresh}
+use Rattle.cap_shared.proofs.Prelude.{◌≡◌, ◌-◌, ◌≤◌, [], true, vec_capacity, view_of, fresh}
 use Rattle.cap_shared.proofs.shared.rooms.Given as goal
 
 -- the seats so far, and the pass sits for the others

@@ -1,5 +1,4 @@
-use Rattle.std.proofs.Common.{◌≡◌, ◌^◌, ◌<◌, take}
-use Rattle.cap_text.specs.Numbers.{decimal}
+use Rattle.cap_text.proofs.Prelude.{◌≡◌, ◌^◌, ◌<◌, take, decimal}
 use Rattle.cap_text.proofs.number.decimal.Given as goal
 
 -- the number of the digits so far

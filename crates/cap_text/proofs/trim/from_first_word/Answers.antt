@@ -1,5 +1,4 @@
-use Rattle.std.proofs.Common.{arith}
-use Rattle.std.proofs.lemmas.Bool.Decides.{nat_tests}
+use Rattle.cap_text.proofs.Prelude.{arith, nat_tests}
 use Rattle.cap_text.proofs.Trims.{front_trimmed}
 use Rattle.cap_text.proofs.trim.from_first_word.Goals.{then-loop-start-test+else-bytes-start-eq32, else-loop-start-test}
 use Rattle.cap_text.proofs.trim.from_first_word.Goals as goal

@@ -1,5 +1,4 @@
-use Rattle.std.proofs.Common.{arith}
-use Rattle.std.proofs.lemmas.Bool.Decides.{nat_tests}
+use Rattle.cap_text.proofs.Prelude.{arith, nat_tests}
 use Rattle.cap_text.proofs.Trims.{end_trimmed}
 use Rattle.cap_text.proofs.trim.to_last_word.Goals.{then-loop-end-test+else-bytes-end-eq32, else-loop-end-test}
 use Rattle.cap_text.proofs.trim.to_last_word.Goals as goal

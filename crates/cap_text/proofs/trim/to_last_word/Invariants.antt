@@ -1,5 +1,4 @@
-use Rattle.std.proofs.Common.{◌≡◌, ℕ, ◌<◌, ◌≤◌, length, get_or, true}
-use Rattle.cap_text.specs.Pieces.{is_space}
+use Rattle.cap_text.proofs.Prelude.{◌≡◌, ℕ, ◌<◌, ◌≤◌, length, get_or, true, is_space}
 use Rattle.cap_text.proofs.trim.to_last_word.Given as goal
 
 -- only spaces from here on

@@ -1,9 +1,4 @@
-use Rattle.cap_commit.proofs.Fitting.{nodes_in_cluster, node_in_cluster}
-use Rattle.std.proofs.Common.{◌∙◌, sym, ap, subst, refl, true, false}
-use Rattle.std.specs.Prelude.{if◌then◌else◌, map, option_and_then}
-use Rattle.cap_base.specs.Members.{IsRising}
-use Rattle.cap_model.specs.Flat.{ClusterNode, NodeTable}
-use Rattle.cap_model.specs.Heartbeat.{after_processed_heartbeat}
+use Rattle.cap_trackers.proofs.Prelude.{nodes_in_cluster, node_in_cluster, ◌∙◌, sym, ap, subst, refl, true, false, if◌then◌else◌, map, option_and_then, IsRising, ClusterNode, NodeTable, after_processed_heartbeat}
 use Rattle.cap_trackers.proofs.Beating.{node_shown, node_missing, unrefused, is_again, repeats_it, repeats_none, bad_refused, unknown_refused, processed, told_is}
 use Rattle.cap_trackers.proofs.node_calls.heartbeat.Goals as goal
 

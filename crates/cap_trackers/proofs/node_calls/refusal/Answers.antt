@@ -1,12 +1,4 @@
-use Rattle.cap_commit.proofs.Fitting.{nodes_in_cluster, amounts_in_cluster}
-use Rattle.std.proofs.Common.{ap, length, ◌∙◌}
-use Rattle.std.specs.Prelude.{bytes_eq, nat_le}
-use Rattle.std.specs.List.{list_any}
-use Rattle.cap_vector.specs.Vector.{amount_max, plus}
-use Rattle.cap_base.specs.Limits.{nodes_max}
-use Rattle.cap_model.specs.Flat.{NodeTable}
-use Rattle.cap_model.specs.RegisterNode.{sum_of_totals}
-use Rattle.cap_laws.proofs.calls.Registering.{none_is_large}
+use Rattle.cap_trackers.proofs.Prelude.{nodes_in_cluster, amounts_in_cluster, ap, length, ◌∙◌, bytes_eq, nat_le, list_any, amount_max, plus, nodes_max, NodeTable, sum_of_totals, none_is_large}
 use Rattle.cap_trackers.proofs.Refusing.{refusal_is}
 use Rattle.cap_trackers.proofs.node_calls.refusal.Goals as goal
 

@@ -1,5 +1,4 @@
-use Rattle.cap_commit.proofs.Sizes.{tree_fits}
-use Rattle.cap_tree.specs.Rows.{IsAt}
+use Rattle.cap_trackers.proofs.Prelude.{tree_fits, IsAt}
 use Rattle.cap_trackers.proofs.Answering.{state_is}
 use Rattle.cap_trackers.proofs.queue_calls.set_queue_state.Goals.{in-Leaf, in-Parent}
 use Rattle.cap_trackers.proofs.queue_calls.set_queue_state.Goals as goal

@@ -1,5 +1,4 @@
-use Rattle.std.proofs.Common.{arith, ◌≡◌, ◌∙◌, ◌+◌, ◌-◌, ◌/◌, ◌<◌, false, length, subst, sym, true}
-use Rattle.std.specs.Ordering.{is_lt}
+use Rattle.cap_tree.proofs.Prelude.{arith, ◌≡◌, ◌∙◌, ◌+◌, ◌-◌, ◌/◌, ◌<◌, false, length, subst, sym, true, is_lt}
 use Rattle.cap_tree.proofs.Orders.{entry_within, later_than_middle, not_later_than_middle}
 use Rattle.cap_tree.proofs.branch.place_after.Goals as goal
 

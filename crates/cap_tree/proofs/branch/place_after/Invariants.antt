@@ -1,7 +1,4 @@
-use Rattle.std.proofs.Common.{◌≡◌, ℕ, ◌-◌, ◌<◌, ◌≤◌, length, get_or, Some}
-use Rattle.std.specs.Option.{option_cmp}
-use Rattle.std.specs.declared.cmp.Ordering.TheVariants.{Less}
-use Rattle.cap_tree.specs.Service.{kid_items, that_pass}
+use Rattle.cap_tree.proofs.Prelude.{◌≡◌, ℕ, ◌-◌, ◌<◌, ◌≤◌, length, get_or, Some, option_cmp, Less, kid_items, that_pass}
 use Rattle.cap_tree.proofs.branch.place_after.Given as goal
 
 -- what stands before the one end is not after the item, and what stands from the other on is

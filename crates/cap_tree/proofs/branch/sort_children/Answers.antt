@@ -1,6 +1,4 @@
-use Rattle.std.proofs.Common.{arith, ◌≡◌, ◌∙◌, length, subst, sym, Some}
-use Rattle.cap_tree.specs.Service.{IsOrderOf, IsPlaceAfter, kid_items, that_pass}
-use Rattle.cap_tree.specs.Spot.{HoldsOfItem}
+use Rattle.cap_tree.proofs.Prelude.{arith, ◌≡◌, ◌∙◌, length, subst, sym, Some, IsOrderOf, IsPlaceAfter, kid_items, that_pass, HoldsOfItem}
 use Rattle.cap_tree.proofs.Orders.{kid_item, left_out, passing_differ, put_in}
 use Rattle.cap_tree.proofs.Service.{failing, passing}
 use Rattle.cap_tree.proofs.branch.sort_children.Goals.{then-waits+in-Ok, else-waits}

@@ -1,5 +1,4 @@
-use Rattle.std.proofs.Common.{rules, arith}
-use Rattle.cap_tree.specs.Measure.{Measure}
+use Rattle.cap_tree.proofs.Prelude.{rules, arith, Measure}
 use Rattle.cap_tree.proofs.Rooms.{room_below}
 use Rattle.cap_tree.proofs.count.moved.Goals as goal
 

@@ -1,6 +1,4 @@
-use Rattle.std.proofs.Common.{◌∙◌, sym}
-use Rattle.cap_vector.specs.Vector.{amounts_exchanged}
-use Rattle.cap_base.specs.LimitTests.{fits_maximum}
+use Rattle.cap_tree.proofs.Prelude.{◌∙◌, sym, amounts_exchanged, fits_maximum}
 use Rattle.cap_tree.proofs.Within.{fits_once}
 use Rattle.cap_tree.proofs.over_limit.fits_in_maximum.Goals as goal
 

@@ -1,6 +1,4 @@
-use Rattle.std.proofs.Common.{rules}
-use Rattle.std.specs.Map.Iter.{deref_pair}
-use Rattle.std.proofs.lemmas.Map.Iter.{rest_so_far, rest_more}
+use Rattle.cap_tree.proofs.Prelude.{rules, deref_pair, rest_so_far, rest_more}
 use Rattle.cap_tree.proofs.UserCopies.{copied_more, copied_all}
 use Rattle.cap_tree.proofs.queue.copy_users.Goals as goal
 

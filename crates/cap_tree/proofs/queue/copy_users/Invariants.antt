@@ -1,5 +1,4 @@
-use Rattle.std.proofs.Common.{◌≡◌, map}
-use Rattle.std.specs.Map.Iter.{deref_pair}
+use Rattle.cap_tree.proofs.Prelude.{◌≡◌, map, deref_pair}
 use Rattle.cap_tree.proofs.queue.copy_users.Given as goal
 
 abbrev pub invariant-loop-user : goal.invariant-loop-user

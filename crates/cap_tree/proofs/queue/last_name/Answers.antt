@@ -1,7 +1,4 @@
-use Rattle.std.proofs.Common.{arith, inl, inr, ap, length}
-use Rattle.std.specs.List.{list_any}
-use Rattle.std.specs.Prelude.{◌==◌}
-use Rattle.std.proofs.lemmas.List.{drop_all}
+use Rattle.cap_tree.proofs.Prelude.{arith, inl, inr, ap, length, list_any, ◌==◌, drop_all}
 use Rattle.cap_tree.proofs.Names.{dotless_before, name_at_end}
 use Rattle.cap_tree.proofs.queue.last_name.Goals.{then-loop-start-test+else-path-start-ne46, else-loop-start-test}
 use Rattle.cap_tree.proofs.queue.last_name.Goals as goal

@@ -1,6 +1,4 @@
-use Rattle.std.proofs.Common.{◌≡◌}
-use Rattle.std.specs.Prelude.{bytes_eq}
-use Rattle.std.specs.Map.{lookup}
+use Rattle.cap_tree.proofs.Prelude.{◌≡◌, bytes_eq, lookup}
 use Rattle.std.proofs.Math.ListN.{drop}
 use Rattle.cap_tree.proofs.queue.row_of.Given as goal
 

@@ -1,8 +1,4 @@
-use Rattle.cap_tree.specs.Rows.{queues_of}
-use Rattle.std.proofs.Common.{rules, ◌∙◌, ap, arith, subst, ◌-◌, ◌≡◌, ◌++◌}
-use Rattle.std.proofs.lemmas.List.{drop_all, take_all}
-use Rattle.cap_base.specs.Trees.{depth}
-use Rattle.cap_tree.specs.Growth.{IsGrowing}
+use Rattle.cap_tree.proofs.Prelude.{queues_of, rules, ◌∙◌, ap, arith, subst, ◌-◌, ◌≡◌, ◌++◌, drop_all, take_all, depth, IsGrowing}
 use Rattle.cap_tree.proofs.Growing.{grow_next, next_level, unused_stored, unused_own, grown_few}
 use Rattle.cap_tree.proofs.tree.add_all.Goals as goal
 

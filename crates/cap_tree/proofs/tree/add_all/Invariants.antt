@@ -1,6 +1,4 @@
-use Rattle.std.proofs.Common.{◌≡◌, ◌++◌, take, drop}
-use Rattle.cap_tree.specs.Growth.{IsGrowing}
-use Rattle.cap_tree.specs.Rows.{queues_of}
+use Rattle.cap_tree.proofs.Prelude.{◌≡◌, ◌++◌, take, drop, IsGrowing, queues_of}
 use Rattle.cap_tree.proofs.tree.add_all.Given as goal
 
 abbrev pub invariant-loop-row : goal.invariant-loop-row

@@ -1,9 +1,4 @@
-use Rattle.std.proofs.Common.{◌≡◌, List, [], ap, sym, ◌∙◌, subst}
-use Rattle.cap_base.specs.Limits.{resources}
-use Rattle.cap_model.specs.News.{Reply}
-use Rattle.cap_session.specs.Session.{SessionState}
-use Rattle.cap_workers.specs.Sessions.{Serves, IsSealed}
-use Rattle.cap_workers.specs.Batches.{IsAnsweredBy}
+use Rattle.cap_workers.proofs.Prelude.{◌≡◌, List, [], ap, sym, ◌∙◌, subst, resources, Reply, SessionState, Serves, IsSealed, IsAnsweredBy}
 use Rattle.cap_workers.proofs.Receipts.{serves_none}
 use Rattle.cap_workers.proofs.Together.{answered_by, left_same, first_of, sealed_batch}
 use Rattle.cap_workers.proofs.batches.answer_batch.Goals as goal

@@ -1,6 +1,4 @@
-use Rattle.std.proofs.Common.{List, slice_index_or, ap, ◌∙◌, arith}
-use Rattle.cap_base.specs.Limits.{resources}
-use Rattle.cap_model.specs.News.{Reply}
+use Rattle.cap_workers.proofs.Prelude.{List, slice_index_or, ap, ◌∙◌, arith, resources, Reply}
 use Rattle.cap_workers.proofs.Together.{below_calls, can_go_on, may_answer_next, answered_none, answered_more, answered_whole}
 use Rattle.cap_workers.proofs.batches.answer_calls.Goals as goal
 

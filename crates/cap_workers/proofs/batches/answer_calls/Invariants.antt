@@ -1,7 +1,4 @@
-use Rattle.std.proofs.Common.{List, take}
-use Rattle.cap_base.specs.Limits.{resources}
-use Rattle.cap_session.specs.Answers.{Call}
-use Rattle.cap_workers.specs.Batches.{IsAnsweredBy, AnsweredAll}
+use Rattle.cap_workers.proofs.Prelude.{List, take, resources, Call, IsAnsweredBy, AnsweredAll}
 use Rattle.cap_workers.proofs.batches.answer_calls.Given as goal
 
 -- the first calls were answered

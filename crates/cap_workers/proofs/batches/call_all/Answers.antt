@@ -1,8 +1,4 @@
-use Rattle.std.proofs.Common.{◌∷◌, [], List, length, length-append, arith, subst, Option, ap}
-use Rattle.cap_base.specs.Limits.{resources}
-use Rattle.cap_model.specs.declared.request.Request.{Request}
-use Rattle.cap_model.specs.News.{Reply}
-use Rattle.cap_workers.specs.Batches.{IsCalled}
+use Rattle.cap_workers.proofs.Prelude.{◌∷◌, [], List, length, length-append, arith, subst, Option, ap, resources, Request, Reply, IsCalled}
 use Rattle.cap_workers.proofs.Together.{made_none, made_more}
 use Rattle.cap_workers.proofs.batches.call_all.Goals as goal
 

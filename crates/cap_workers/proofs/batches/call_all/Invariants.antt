@@ -1,5 +1,4 @@
-use Rattle.std.proofs.Common.{◌+◌, ◌≤◌, [], length, vec_capacity}
-use Rattle.cap_workers.specs.Batches.{CallsMade}
+use Rattle.cap_workers.proofs.Prelude.{◌+◌, ◌≤◌, [], length, vec_capacity, CallsMade}
 use Rattle.cap_workers.proofs.batches.call_all.Given as goal
 
 -- the calls so far

@@ -1,9 +1,5 @@
-use Rattle.std.proofs.Common.{[], ◌∷◌, ◌∙◌, subst}
-use Rattle.cap_shared.specs.Calls.{CallMisses}
+use Rattle.cap_workers.proofs.Prelude.{[], ◌∷◌, ◌∙◌, subst, CallMisses, Fault, Entered, none_made, made, starved}
 use Rattle.cap_shared.specs.declared.entry.Receipt.TheVariants as receipt
-use Rattle.cap_shared.specs.declared.faults.Fault.{Fault}
-use Rattle.cap_shared.specs.declared.history.Moment.TheVariants.{Entered}
-use Rattle.cap_workers.specs.Sessions.{none_made, made, starved}
 use Rattle.cap_workers.proofs.Receipts.{has_none}
 use Rattle.cap_workers.proofs.batches.call_one.Goals as goal
 

@@ -1,8 +1,5 @@
-use Rattle.std.proofs.Common.{Option, refl, ◌∙◌, subst}
-use Rattle.cap_base.specs.Limits.{resources}
-use Rattle.cap_model.specs.declared.request.Request.{Request}
+use Rattle.cap_workers.proofs.Prelude.{Option, refl, ◌∙◌, subst, resources, Request, IsBatchMade}
 use Rattle.cap_session.specs.declared.session.Next.TheVariants as nexts
-use Rattle.cap_workers.specs.Batches.{IsBatchMade}
 use Rattle.cap_workers.proofs.Receipts.{serves_none, serves_then}
 use Rattle.cap_workers.proofs.Answering.{sealed_then, next_need, next_ended, next_request_is, next_same}
 use Rattle.cap_workers.proofs.sessions.answer_all.Goals as goal

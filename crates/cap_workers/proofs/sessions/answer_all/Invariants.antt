@@ -1,5 +1,4 @@
-use Rattle.std.proofs.Common.{◌≡◌, [], None}
-use Rattle.cap_workers.specs.Sessions.{Serves, pending_request}
+use Rattle.cap_workers.proofs.Prelude.{◌≡◌, [], None, Serves, pending_request}
 use Rattle.cap_workers.proofs.sessions.answer_all.Given as goal
 
 -- the calls so far were made and answered

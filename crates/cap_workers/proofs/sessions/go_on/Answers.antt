@@ -1,6 +1,4 @@
-use Rattle.std.proofs.Common.{Some, refl, ap}
-use Rattle.cap_session.specs.Counted.{state_of, inner_of}
-use Rattle.cap_session.specs.Session.{SessionState}
+use Rattle.cap_workers.proofs.Prelude.{Some, refl, ap, state_of, inner_of, SessionState}
 use Rattle.cap_workers.specs.declared.sessions.EndCause.TheVariants as ends
 use Rattle.cap_workers.proofs.Rounds.{read_out}
 use Rattle.cap_workers.proofs.Streams.{reads_none}

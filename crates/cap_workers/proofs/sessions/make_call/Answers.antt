@@ -1,13 +1,7 @@
-use Rattle.std.proofs.Common.{refl, sym, ap, ◌∙◌, subst, [], ◌∷◌, Some, Option}
-use Rattle.cap_base.specs.Limits.{resources}
-use Rattle.cap_model.specs.declared.request.Request.{Request}
+use Rattle.cap_workers.proofs.Prelude.{refl, sym, ap, ◌∙◌, subst, [], ◌∷◌, Some, Option, resources, Request, CallsBack, IsSealedCall, CallFault, Entered, none_made, made, starved, IsCallMade}
 use Rattle.cap_model.specs.declared.reply.ReplyWith.TheVariants as reply
 use Rattle.cap_model.specs.declared.refusal.Refusal.TheVariants as refusal
-use Rattle.cap_shared.specs.Calls.{CallsBack, IsSealedCall}
 use Rattle.cap_shared.specs.declared.entry.Receipt.TheVariants as receipt
-use Rattle.cap_shared.specs.declared.faults.CallFault.{CallFault}
-use Rattle.cap_shared.specs.declared.history.Moment.TheVariants.{Entered}
-use Rattle.cap_workers.specs.Sessions.{none_made, made, starved, IsCallMade}
 use Rattle.cap_workers.proofs.Receipts.{has_none}
 use Rattle.cap_workers.proofs.Answering.{may_answer, serves_call, calls_none}
 use Rattle.cap_workers.proofs.sessions.make_call.Goals as goal

@@ -1,5 +1,4 @@
-use Rattle.std.proofs.Common.{sym, ap, ◌∙◌, [], take, append-nil}
-use Rattle.cap_session.specs.Session.{SessionState}
+use Rattle.cap_workers.proofs.Prelude.{sym, ap, ◌∙◌, [], take, append-nil, SessionState}
 use Rattle.cap_workers.proofs.Rounds.{fed_none}
 use Rattle.cap_workers.proofs.sessions.read_more.Goals as goal
 

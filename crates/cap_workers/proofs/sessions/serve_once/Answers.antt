@@ -1,9 +1,5 @@
-use Rattle.std.proofs.Common.{refl, ap, ◌∙◌, subst}
-use Rattle.cap_session.specs.Counted.{state_of, inner_of}
-use Rattle.cap_session.specs.Session.{SessionState}
-use Rattle.cap_workers.specs.Sessions.{IsPause}
+use Rattle.cap_workers.proofs.Prelude.{refl, ap, ◌∙◌, subst, state_of, inner_of, SessionState, IsPause, Pause}
 use Rattle.cap_workers.specs.declared.sessions.EndCause.TheVariants as ends
-use Rattle.cap_workers.specs.declared.sessions.Pause.{Pause}
 use Rattle.cap_workers.specs.declared.sessions.Pause.TheVariants as pauses
 use Rattle.cap_workers.proofs.Rounds.{went_on, faulted_round, sealed_round, starved_round}
 use Rattle.cap_workers.proofs.Streams.{reads_finished}

@@ -1,7 +1,4 @@
-use Rattle.std.proofs.Common.{refl, sym, ap, subst, [], ◌++◌, None, Option}
-use Rattle.cap_session.specs.Counted.{state_of, inner_of}
-use Rattle.cap_workers.specs.Sessions.{IsRead, IsRound, IsWritten, pending_request}
-use Rattle.cap_workers.specs.declared.sessions.EndCause.{EndCause}
+use Rattle.cap_workers.proofs.Prelude.{refl, sym, ap, subst, [], ◌++◌, None, Option, state_of, inner_of, IsRead, IsRound, IsWritten, pending_request, EndCause}
 use Rattle.cap_workers.proofs.Receipts.{serves_none, serves_then}
 use Rattle.cap_workers.proofs.Rounds.{served_then}
 use Rattle.cap_workers.proofs.Streams.{reads_none, writes_none, read_then, written_then, can_still_read, can_still_write, sum_saturates}

@@ -1,6 +1,4 @@
-use Rattle.std.proofs.Common.{◌≡◌, ℕ, ◌-◌, ◌^◌, List, length, min, [], None}
-use Rattle.cap_session.specs.Counted.{state_of, inner_of}
-use Rattle.cap_workers.specs.Sessions.{Serves, IsRead, IsWritten, pending_request}
+use Rattle.cap_workers.proofs.Prelude.{◌≡◌, ℕ, ◌-◌, ◌^◌, List, length, min, [], None, state_of, inner_of, Serves, IsRead, IsWritten, pending_request}
 use Rattle.cap_workers.proofs.sessions.serve_session.Given as goal
 
 -- the rounds so far

@@ -1,6 +1,4 @@
-use Rattle.std.proofs.Common.{◌≡◌, List, ℕ, nat_eq, Some, refl, ap, ◌∙◌, sym}
-use Rattle.cap_world.specs.Connection.{Connection}
-use Rattle.cap_world.specs.World.{WorldState, connection_at, is_open_connection}
+use Rattle.cap_world.proofs.Prelude.{◌≡◌, List, ℕ, nat_eq, Some, refl, ap, ◌∙◌, sym, Connection, WorldState, connection_at, is_open_connection}
 use Rattle.cap_world.proofs.Tables.{set_value_same}
 use Rattle.cap_world.proofs.connections.end.Goals as goal
 

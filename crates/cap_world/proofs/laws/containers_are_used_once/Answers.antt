@@ -1,6 +1,4 @@
-use Rattle.cap_base.specs.Limits.{resources}
-use Rattle.cap_laws.proofs.numbers.ContainerNumbers.{granted_once}
-use Rattle.cap_laws.proofs.numbers.Balance.{ended_once, live_is_what_was_not_ended}
+use Rattle.cap_world.proofs.Prelude.{resources, granted_once, ended_once, live_is_what_was_not_ended}
 use Rattle.cap_world.proofs.laws.containers_are_used_once.Goals as goal
 
 pub returns-clause-once : goal.returns-clause-once

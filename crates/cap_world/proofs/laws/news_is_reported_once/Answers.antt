@@ -1,5 +1,4 @@
-use Rattle.cap_base.specs.Limits.{resources}
-use Rattle.cap_laws.proofs.telling.ToldRuns.{grants_are_told_over_runs, ends_are_told_over_runs}
+use Rattle.cap_world.proofs.Prelude.{resources, grants_are_told_over_runs, ends_are_told_over_runs}
 use Rattle.cap_world.proofs.laws.news_is_reported_once.Goals as goal
 
 pub returns-clause-grants : goal.returns-clause-grants

@@ -1,11 +1,4 @@
-use Rattle.std.proofs.Common.{List, sym, subst}
-use Rattle.cap_base.specs.Limits.{resources}
-use Rattle.cap_model.specs.declared.event.Event.{Event}
-use Rattle.cap_model.specs.Events.{Run}
-use Rattle.cap_model.specs.Risen.{LimitsAreMetOrNotRisen}
-use Rattle.cap_laws.proofs.bounds.BoundedRuns.{opened_is_bounded, opened_meets_limits}
-use Rattle.cap_laws.proofs.bounds.Risen.{states_of_runs}
-use Rattle.cap_config.proofs.Listing.{settings_listed}
+use Rattle.cap_world.proofs.Prelude.{List, sym, subst, resources, Event, Run, LimitsAreMetOrNotRisen, opened_is_bounded, opened_meets_limits, states_of_runs, settings_listed}
 use Rattle.cap_world.proofs.laws.worlds_stay_bounded.Goals as goal
 
 pub returns-clause-runs : goal.returns-clause-runs

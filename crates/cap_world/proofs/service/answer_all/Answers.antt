@@ -1,7 +1,4 @@
-use Rattle.std.proofs.Common.{List, [], ◌∷◌, ◌++◌, refl, ◌∙◌, ap}
-use Rattle.cap_base.specs.Limits.{resources}
-use Rattle.cap_model.specs.declared.event.Event.{Event}
-use Rattle.cap_world.specs.Answers.{call_event}
+use Rattle.cap_world.proofs.Prelude.{List, [], ◌∷◌, ◌++◌, refl, ◌∙◌, ap, resources, Event, call_event}
 use Rattle.cap_world.proofs.ServedRequests.{serves_none, serves_then, serves_call, served_rest, served_ended, served_starved}
 use Rattle.cap_world.proofs.service.answer_all.Goals as goal
 

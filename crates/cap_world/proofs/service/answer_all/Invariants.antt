@@ -1,6 +1,4 @@
-use Rattle.std.proofs.Common.{◌≡◌, [], None}
-use Rattle.cap_session.specs.Session.{bytes_unanswered}
-use Rattle.cap_world.specs.Serving.{Serves}
+use Rattle.cap_world.proofs.Prelude.{◌≡◌, [], None, bytes_unanswered, Serves}
 use Rattle.cap_world.proofs.service.answer_all.Given as goal
 
 -- the requests so far were answered

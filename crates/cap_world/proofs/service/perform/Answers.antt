@@ -1,5 +1,4 @@
-use Rattle.std.proofs.Common.{arith}
-use Rattle.cap_model.specs.Reporting.{full_reply}
+use Rattle.cap_world.proofs.Prelude.{arith, full_reply}
 use Rattle.cap_world.proofs.service.perform.Goals as goal
 
 pub own-reply-requires : goal.own-reply-requires

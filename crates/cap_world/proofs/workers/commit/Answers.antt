@@ -1,7 +1,4 @@
-use Rattle.std.proofs.Common.{◌≡◌, ◌<◌, nat_eq, Some, refl, ap, ◌∙◌, sym, inr, arith}
-use Rattle.std.proofs.lemmas.Result.{err_from_is_err_and}
-use Rattle.cap_world.specs.Worker.{workers_max}
-use Rattle.cap_world.specs.World.{worker_at, choice_in}
+use Rattle.cap_world.proofs.Prelude.{◌≡◌, ◌<◌, nat_eq, Some, refl, ap, ◌∙◌, sym, inr, arith, err_from_is_err_and, workers_max, worker_at, choice_in}
 use Rattle.cap_world.proofs.Tables.{set_value_same}
 use Rattle.cap_world.proofs.Starving.{commit_starved, same_workers}
 use Rattle.cap_world.proofs.workers.commit.Goals as goal

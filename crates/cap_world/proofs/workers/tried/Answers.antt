@@ -1,7 +1,4 @@
-use Rattle.std.proofs.Common.{sym}
-use Rattle.cap_base.specs.Limits.{resources}
-use Rattle.cap_model.specs.Sight.{sight_of}
-use Rattle.cap_laws.proofs.choice.Reasons.{rejected_exactly}
+use Rattle.cap_world.proofs.Prelude.{sym, resources, sight_of, rejected_exactly}
 use Rattle.cap_world.proofs.workers.tried.Goals as goal
 
 pub returns-in-None-clause-admissible : goal.returns-in-None-clause-admissible

@@ -1,6 +1,4 @@
-use Rattle.std.proofs.Common.{[], ◌∷◌, ◌++◌, ap, refl, arith}
-use Rattle.cap_asks.specs.Accounts.{Account}
-use Rattle.cap_asks.specs.Apps.{held_at, entries_at, is_waiting}
+use Rattle.cap_asks.proofs.Prelude.{[], ◌∷◌, ◌++◌, ap, refl, arith, Account, held_at, entries_at, is_waiting}
 use Rattle.cap_asks.proofs.Entries.{by_number, it_has, it_has_none}
 use Rattle.cap_asks.proofs.Slots.{slot_taken, opened, looked_at}
 use Rattle.cap_asks.proofs.Waiters.{changed, unchanged}

@@ -1,7 +1,4 @@
-use Rattle.std.proofs.Common.{ap, sym, ◌∙◌}
-use Rattle.std.specs.Prelude.{option_map}
-use Rattle.cap_asks.specs.Accounts.{HeldApp}
-use Rattle.cap_asks.specs.Apps.{held_at, entries_at}
+use Rattle.cap_asks.proofs.Prelude.{ap, sym, ◌∙◌, option_map, HeldApp, held_at, entries_at}
 use Rattle.cap_asks.proofs.Entries.{by_number, app_found, account_found}
 use Rattle.cap_asks.proofs.Slots.{slot_taken, opened, looked_at}
 use Rattle.cap_asks.proofs.apps.Apps.app.Goals as goal

@@ -1,5 +1,4 @@
-use Rattle.std.proofs.Common.{refl, arith}
-use Rattle.cap_asks.specs.Apps.{held_at}
+use Rattle.cap_asks.proofs.Prelude.{refl, arith, held_at}
 use Rattle.cap_asks.proofs.Waiters.{taken_out, without}
 use Rattle.cap_asks.proofs.apps.Apps.finish.Goals as goal
 

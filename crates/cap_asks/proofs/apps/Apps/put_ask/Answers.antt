@@ -1,7 +1,4 @@
-use Rattle.std.proofs.Common.{refl, arith}
-use Rattle.cap_model.specs.Asking.{put_ask}
-use Rattle.cap_asks.specs.Accounts.{Account}
-use Rattle.cap_asks.specs.Apps.{held_at, entries_at}
+use Rattle.cap_asks.proofs.Prelude.{refl, arith, put_ask, Account, held_at, entries_at}
 use Rattle.cap_asks.proofs.Entries.{it_has}
 use Rattle.cap_asks.proofs.Slots.{slot_taken, opened}
 use Rattle.cap_asks.proofs.Waiters.{changed, unchanged}

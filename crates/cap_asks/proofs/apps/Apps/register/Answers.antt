@@ -1,5 +1,4 @@
-use Rattle.std.proofs.Common.{true, refl}
-use Rattle.cap_asks.specs.Apps.{held_at}
+use Rattle.cap_asks.proofs.Prelude.{true, refl, held_at}
 use Rattle.cap_asks.proofs.Slots.{slot_taken}
 use Rattle.cap_asks.proofs.Waiters.{changed, unchanged}
 use Rattle.cap_asks.proofs.apps.Apps.register.Goals as goal

@@ -1,8 +1,4 @@
-use Rattle.std.proofs.Common.{◌≡◌, true, ap, sym, refl, ◌∙◌}
-use Rattle.std.specs.Prelude.{Result, Ok, Err, OnOk, is_some, find, ◌==◌}
-use Rattle.cap_base.specs.declared.no_memory.NoMemory.{NoMemory}
-use Rattle.cap_model.specs.Flat.{App}
-use Rattle.cap_asks.specs.Apps.{held_at, entries_at, is_waiting}
+use Rattle.cap_asks.proofs.Prelude.{◌≡◌, true, ap, sym, refl, ◌∙◌, Result, Ok, Err, OnOk, is_some, find, ◌==◌, NoMemory, App, held_at, entries_at, is_waiting}
 use Rattle.cap_asks.proofs.Entries.{apps_of, by_number, same_apps, found_after, has_rooms, had_room, none_there}
 use Rattle.cap_asks.proofs.Slots.{slot_taken, opened, looked_at}
 use Rattle.cap_asks.proofs.Waiters.{changed}

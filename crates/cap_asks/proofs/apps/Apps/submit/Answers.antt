@@ -1,9 +1,4 @@
-use Rattle.std.proofs.Common.{ℕ, ◌+◌, ◌∷◌, [], ◌++◌, length, ap, sym, ◌∙◌, arith, nat_cmp}
-use Rattle.std.specs.BTreeMap.{insert_entry}
-use Rattle.std.proofs.lemmas.List.{length-map}
-use Rattle.cap_model.specs.Flat.{App}
-use Rattle.cap_asks.specs.Accounts.{HeldApp}
-use Rattle.cap_asks.specs.Apps.{is_waiting, entries_at, held_at, slot_in}
+use Rattle.cap_asks.proofs.Prelude.{ℕ, ◌+◌, ◌∷◌, [], ◌++◌, length, ap, sym, ◌∙◌, arith, nat_cmp, insert_entry, length-map, App, HeldApp, is_waiting, entries_at, held_at, slot_in}
 use Rattle.cap_asks.proofs.Entries.{apps_of, accounts_of, next_absent, apps_push, account_entered}
 use Rattle.cap_asks.proofs.Waiters.{few_waiters, grown, entered}
 use Rattle.cap_asks.proofs.apps.Apps.submit.Goals as goal

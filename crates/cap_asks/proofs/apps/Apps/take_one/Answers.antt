@@ -1,6 +1,4 @@
-use Rattle.std.proofs.Common.{refl}
-use Rattle.cap_asks.specs.Apps.{held_at}
-use Rattle.cap_model.specs.Events.{take_one}
+use Rattle.cap_asks.proofs.Prelude.{refl, held_at, take_one}
 use Rattle.cap_asks.proofs.Slots.{slot_taken}
 use Rattle.cap_asks.proofs.Waiters.{changed, unchanged}
 use Rattle.cap_asks.proofs.apps.Apps.take_one.Goals as goal

@@ -1,9 +1,4 @@
-use Rattle.std.proofs.Common.{ap, refl}
-use Rattle.std.specs.Prelude.{nat_eq}
-use Rattle.std.specs.Map.{set_value}
-use Rattle.cap_model.specs.Flat.{App}
-use Rattle.cap_model.specs.Allocate.{after_telling}
-use Rattle.cap_asks.specs.Apps.{held_at, entries_at, is_waiting}
+use Rattle.cap_asks.proofs.Prelude.{ap, refl, nat_eq, set_value, App, after_telling, held_at, entries_at, is_waiting}
 use Rattle.cap_asks.proofs.Entries.{by_number, still_numbered, found_after, kept_now, missing_app}
 use Rattle.cap_asks.proofs.Slots.{slot_taken, opened, looked_at}
 use Rattle.cap_asks.proofs.Waiters.{changed, unchanged}

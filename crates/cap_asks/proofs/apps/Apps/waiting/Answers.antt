@@ -1,12 +1,4 @@
-use Rattle.std.proofs.Common.{◌≡◌, ◌++◌, ◌∷◌, [], ap, sym, subst, ◌∙◌, map, take}
-use Rattle.std.specs.Prelude.{Some}
-use Rattle.std.specs.List.{All}
-use Rattle.std.proofs.lemmas.List.{map_push, take_more}
-use Rattle.std.proofs.lemmas.List.Elements.{All-push}
-use Rattle.std.proofs.lemmas.Option.{get_or_from_slice_get, slice_get_within}
-use Rattle.cap_model.specs.Flat.{App}
-use Rattle.cap_asks.specs.Accounts.{HeldApp}
-use Rattle.cap_asks.specs.Apps.{account_of, waiting_of}
+use Rattle.cap_asks.proofs.Prelude.{◌≡◌, ◌++◌, ◌∷◌, [], ap, sym, subst, ◌∙◌, map, take, Some, All, map_push, take_more, All-push, get_or_from_slice_get, slice_get_within, App, HeldApp, account_of, waiting_of}
 use Rattle.cap_asks.proofs.apps.Apps.waiting.Goals as goal
 
 pub loop-index-preserved : goal.loop-index-preserved

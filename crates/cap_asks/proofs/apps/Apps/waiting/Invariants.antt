@@ -1,7 +1,4 @@
-use Rattle.std.proofs.Common.{◌≡◌, map, take}
-use Rattle.std.specs.Prelude.{Some}
-use Rattle.std.specs.List.{All}
-use Rattle.cap_asks.specs.Apps.{account_of, waiting_of}
+use Rattle.cap_asks.proofs.Prelude.{◌≡◌, map, take, Some, All, account_of, waiting_of}
 use Rattle.cap_asks.proofs.apps.Apps.waiting.Given as goal
 
 abbrev pub invariant-loop-index : goal.invariant-loop-index

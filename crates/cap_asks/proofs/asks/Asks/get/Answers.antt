@@ -1,6 +1,4 @@
-use Rattle.std.proofs.Common.{◌∙◌, sym, ap, arith}
-use Rattle.cap_asks.specs.Accounts.{HeldAsks}
-use Rattle.cap_model.specs.Flat.{ask_at}
+use Rattle.cap_asks.proofs.Prelude.{◌∙◌, sym, ap, arith, HeldAsks, ask_at}
 use Rattle.cap_asks.proofs.Keeping.{stands_within, is_taken}
 use Rattle.cap_asks.proofs.asks.Asks.get.Goals as goal
 

@@ -1,6 +1,4 @@
-use Rattle.std.proofs.Common.{ap, arith, take, length, length-take}
-use Rattle.std.specs.Prelude.{not, ◌==◌}
-use Rattle.cap_asks.specs.Accounts.{HeldAsks, AreKept}
+use Rattle.cap_asks.proofs.Prelude.{ap, arith, take, length, length-take, not, ◌==◌, HeldAsks, AreKept}
 use Rattle.cap_asks.proofs.Keeping.{count_next, few_all, byte_few, not_too_many}
 use Rattle.cap_asks.proofs.asks.Asks.has_too_many_keys.Goals as goal
 

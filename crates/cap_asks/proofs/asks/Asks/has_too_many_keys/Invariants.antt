@@ -1,6 +1,4 @@
-use Rattle.std.proofs.Common.{◌≡◌, take, length}
-use Rattle.std.specs.List.{fold}
-use Rattle.cap_model.specs.Asking.{put_ask}
+use Rattle.cap_asks.proofs.Prelude.{◌≡◌, take, length, fold, put_ask}
 use Rattle.cap_asks.proofs.asks.Asks.has_too_many_keys.Given as goal
 
 -- as many as stand after the asks so far

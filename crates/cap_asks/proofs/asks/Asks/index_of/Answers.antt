@@ -1,6 +1,4 @@
-use Rattle.std.proofs.Common.{◌≡◌, ◌+◌, ◌-◌, ◌/◌, ◌∙◌, sym, ap, arith}
-use Rattle.cap_model.specs.Asks.{Ask}
-use Rattle.cap_asks.specs.Accounts.{HeldAsks, AreKept, is_before, index_of}
+use Rattle.cap_asks.proofs.Prelude.{◌≡◌, ◌+◌, ◌-◌, ◌/◌, ◌∙◌, sym, ap, arith, Ask, HeldAsks, AreKept, is_before, index_of}
 use Rattle.cap_asks.proofs.Keeping.{is_later, not_later, within_end, index_found, index_other, index_past}
 use Rattle.cap_asks.proofs.asks.Asks.index_of.Goals as goal
 use Rattle.cap_asks.proofs.asks.Asks.index_of.Goals.{else-low-items-via-then-low-items+else-is_same, else-low-items-via-else-low-items}

@@ -1,5 +1,4 @@
-use Rattle.std.proofs.Common.{◌≤◌, ◌-◌, length}
-use Rattle.cap_asks.specs.Accounts.{index_of}
+use Rattle.cap_asks.proofs.Prelude.{◌≤◌, ◌-◌, length, index_of}
 use Rattle.cap_asks.proofs.asks.Asks.index_of.Given as goal
 
 -- the index of the key is between the two ends

@@ -1,7 +1,4 @@
-use Rattle.std.proofs.Common.{◌≡◌, true, false, ap, sym, ◌∙◌, arith}
-use Rattle.std.specs.Prelude.{◌==◌}
-use Rattle.std.proofs.lemmas.Bool.Decides.{nat_tests}
-use Rattle.cap_asks.specs.Accounts.{HeldAsks}
+use Rattle.cap_asks.proofs.Prelude.{◌≡◌, true, false, ap, sym, ◌∙◌, arith, ◌==◌, nat_tests, HeldAsks}
 use Rattle.cap_asks.proofs.Keeping.{placed, is_within, is_within_end, is_removed, is_replaced, is_absent, is_added, kept_put, put_as_seen}
 use Rattle.cap_asks.proofs.asks.Asks.put.Goals as goal
 

@@ -1,5 +1,4 @@
-use Rattle.std.proofs.Common.{true, false, ap, sym, ◌∙◌}
-use Rattle.std.specs.Prelude.{not, ◌==◌}
+use Rattle.cap_asks.proofs.Prelude.{true, false, ap, sym, ◌∙◌, not, ◌==◌}
 use Rattle.cap_asks.proofs.Keeping.{stands_next, chosen}
 use Rattle.cap_asks.proofs.asks.Asks.stands_after.Goals as goal
 use Rattle.cap_asks.proofs.asks.Asks.stands_after.Goals.{then-is_same, else-is_same}

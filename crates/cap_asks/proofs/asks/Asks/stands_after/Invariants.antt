@@ -1,7 +1,4 @@
-use Rattle.std.proofs.Common.{◌≡◌, take, is_some}
-use Rattle.std.specs.List.{fold}
-use Rattle.cap_model.specs.Flat.{ask_at}
-use Rattle.cap_model.specs.Asking.{put_ask}
+use Rattle.cap_asks.proofs.Prelude.{◌≡◌, take, is_some, fold, ask_at, put_ask}
 use Rattle.cap_asks.proofs.asks.Asks.stands_after.Given as goal
 
 -- whether the key stands after the asks so far

@@ -1,6 +1,4 @@
-use Rattle.std.proofs.Common.{◌≡◌, ◌-◌, ap, sym, ◌∙◌, arith}
-use Rattle.cap_model.specs.Events.{take_one}
-use Rattle.cap_asks.specs.Accounts.{HeldAsks}
+use Rattle.cap_asks.proofs.Prelude.{◌≡◌, ◌-◌, ap, sym, ◌∙◌, arith, take_one, HeldAsks}
 use Rattle.cap_asks.proofs.Keeping.{is_taken, stands_within, last_taken, fewer_taken, kept_taken, taken_wanted, none_there}
 use Rattle.cap_asks.proofs.asks.Asks.take_one.Goals as goal
 

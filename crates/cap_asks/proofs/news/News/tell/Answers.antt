@@ -1,6 +1,4 @@
-use Rattle.std.proofs.Common.{◌∙◌, ◌+◌, ap, arith, drop, take}
-use Rattle.cap_base.specs.Limits.{news_max}
-use Rattle.cap_asks.specs.Accounts.{HeldNews}
+use Rattle.cap_asks.proofs.Prelude.{◌∙◌, ◌+◌, ap, arith, drop, take, news_max, HeldNews}
 use Rattle.cap_asks.proofs.Telling.{told_next}
 use Rattle.cap_asks.proofs.news.News.tell.Goals as goal
 

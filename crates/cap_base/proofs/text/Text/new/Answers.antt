@@ -1,5 +1,4 @@
-use Rattle.std.proofs.Common.{◌≡◌, length, arith, true, rules}
-use Rattle.cap_base.specs.Texts.{is_text}
+use Rattle.cap_base.proofs.Prelude.{◌≡◌, length, arith, true, rules, is_text}
 use Rattle.cap_base.proofs.lists.Padding.{held, text_short}
 use Rattle.cap_base.proofs.text.Text.new.Goals as goal
 

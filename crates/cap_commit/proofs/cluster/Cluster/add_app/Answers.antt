@@ -1,15 +1,7 @@
-use Rattle.cap_commit.specs.ClusterState.{ClusterState, flat_of}
-use Rattle.cap_laws.proofs.calls.Registering.{may_enter}
+use Rattle.cap_commit.proofs.Prelude.{ClusterState, flat_of, may_enter, ◌≡◌, ℕ, List, ap, ◌∙◌, map, arith, Some, option_map_or, Account, IsEntered, account_of, new_account, queues_of, entered_row, zero_count, one_app}
 use Rattle.cap_commit.proofs.Fitting.{apps_fit}
-use Rattle.std.proofs.Common.{◌≡◌, ℕ, List, ap, ◌∙◌, map, arith}
-use Rattle.std.specs.Prelude.{Some}
-use Rattle.std.specs.Option.{option_map_or}
-use Rattle.cap_asks.specs.Accounts.{Account}
-use Rattle.cap_asks.specs.Apps.{IsEntered, account_of, new_account}
-use Rattle.cap_tree.specs.Rows.{queues_of, entered_row}
 use Rattle.cap_commit.proofs.Holding.{held_entered, held_same, with_table}
 use Rattle.cap_commit.proofs.Moving.{moved_settings}
-use Rattle.cap_tree.specs.Count.{zero_count, one_app}
 use Rattle.cap_commit.proofs.RowsAt.{all_few}
 use Rattle.cap_commit.proofs.Sizes.{tree_fits}
 use Rattle.cap_commit.proofs.cluster.Cluster.add_app.Goals as goal

@@ -1,12 +1,6 @@
-use Rattle.std.proofs.Common.{◌≡◌, ℕ, refl, ap, ◌∙◌}
+use Rattle.cap_commit.proofs.Prelude.{◌≡◌, ℕ, refl, ap, ◌∙◌, Result, Ok, Err, IfOk, OnErr, NoMemory, NodeTable, may_join, flat_of, reserved_joined}
 use Rattle.cap_commit.proofs.Fitting.{amounts_in_cluster, nodes_in_cluster}
-use Rattle.std.specs.Prelude.{Result, Ok, Err, IfOk, OnErr}
-use Rattle.cap_base.specs.declared.no_memory.NoMemory.{NoMemory}
-use Rattle.cap_model.specs.Flat.{NodeTable}
-use Rattle.cap_laws.proofs.calls.Registering.{may_join}
-use Rattle.cap_commit.specs.ClusterState.{flat_of}
 use Rattle.cap_commit.proofs.Holding.{held_nodes}
-use Rattle.cap_laws.proofs.bounds.ReservedNodes.{reserved_joined}
 use Rattle.cap_commit.proofs.cluster.Cluster.add_node.Goals as goal
 
 pub register-requires : goal.register-requires

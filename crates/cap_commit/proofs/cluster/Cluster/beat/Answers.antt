@@ -1,8 +1,6 @@
 use Rattle.cap_commit.proofs.Fitting.{nodes_in_cluster}
-use Rattle.std.proofs.Common.{ap, refl}
-use Rattle.cap_model.specs.Flat.{NodeTable}
+use Rattle.cap_commit.proofs.Prelude.{ap, refl, NodeTable, reserved_changed}
 use Rattle.cap_commit.proofs.Holding.{held_nodes}
-use Rattle.cap_laws.proofs.bounds.ReservedNodes.{reserved_changed}
 use Rattle.cap_commit.proofs.cluster.Cluster.beat.Goals as goal
 
 pub beat-requires : goal.beat-requires

@@ -1,12 +1,7 @@
 use Rattle.cap_commit.proofs.Fitting.{nodes_in_cluster}
-use Rattle.std.proofs.Common.{ap, sym, subst, ◌∙◌}
-use Rattle.std.specs.Prelude.{IsSome, filter, ◌==◌, ◌≡◌, []}
-use Rattle.cap_model.specs.Flat.{Flat, NodeTable, Reservation, containers_on, node_at}
-use Rattle.cap_model.specs.NodeGone.{remove_node}
-use Rattle.cap_commit.specs.ClusterState.{ClusterState, Parts, flat_of}
+use Rattle.cap_commit.proofs.Prelude.{ap, sym, subst, ◌∙◌, IsSome, filter, ◌==◌, ◌≡◌, [], Flat, NodeTable, Reservation, containers_on, node_at, remove_node, ClusterState, Parts, flat_of, reserved_gone}
 use Rattle.cap_commit.proofs.Dropping.{none_stay}
 use Rattle.cap_commit.proofs.Holding.{held_nodes}
-use Rattle.cap_laws.proofs.bounds.ReservedNodes.{reserved_gone}
 use Rattle.cap_commit.proofs.cluster.Cluster.drop_node.Goals as goal
 
 pub gone-requires : goal.gone-requires

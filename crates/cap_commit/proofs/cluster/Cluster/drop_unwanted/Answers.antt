@@ -1,9 +1,5 @@
 use Rattle.cap_commit.proofs.Fitting.{in_cluster, nodes_in_cluster}
-use Rattle.std.proofs.Common.{ap, ◌∙◌}
-use Rattle.std.specs.Option.{option_map_or}
-use Rattle.cap_model.specs.Asking.{keep_first, reservations_left}
-use Rattle.cap_model.specs.Flat.{app_in, is_for, with_reserved}
-use Rattle.cap_commit.specs.ClusterState.{ClusterState}
+use Rattle.cap_commit.proofs.Prelude.{ap, ◌∙◌, option_map_or, keep_first, reservations_left, app_in, is_for, with_reserved, ClusterState}
 use Rattle.cap_commit.proofs.cluster.Cluster.drop_unwanted.Goals as goal
 
 pub returns-clause-flat : goal.returns-clause-flat

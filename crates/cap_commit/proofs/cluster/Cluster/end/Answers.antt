@@ -1,12 +1,8 @@
 use Rattle.cap_commit.proofs.Fitting.{in_cluster, nodes_in_cluster}
-use Rattle.std.proofs.Common.{[], ◌∷◌, ◌++◌, ap, sym, ◌∙◌, map, arith}
-use Rattle.cap_tree.specs.Rows.{queues_of, lowered_row}
-use Rattle.cap_tree.specs.Spot.{path_at}
-use Rattle.cap_model.specs.Flat.{change_app}
+use Rattle.cap_commit.proofs.Prelude.{[], ◌∷◌, ◌++◌, ap, sym, ◌∙◌, map, arith, queues_of, lowered_row, path_at, change_app, zero_count, use_alone}
 use Rattle.cap_commit.proofs.Ending.{has_owner, some_live, may_give_back, held_ended, ended_is}
 use Rattle.cap_commit.proofs.Holding.{placed_at, position_is}
 use Rattle.cap_commit.proofs.Moving.{moved_settings}
-use Rattle.cap_tree.specs.Count.{zero_count, use_alone}
 use Rattle.cap_commit.proofs.Sizes.{tree_fits}
 use Rattle.cap_commit.proofs.cluster.Cluster.end.Goals as goal
 

@@ -1,8 +1,5 @@
 use Rattle.cap_commit.proofs.Fitting.{container_in_cluster}
-use Rattle.std.proofs.Common.{sym, ◌∙◌, arith}
-use Rattle.cap_commit.specs.Owners.{owns}
-use Rattle.cap_laws.proofs.ending.EndsInOrder.{none_pass}
-use Rattle.cap_laws.proofs.ending.EndsLeft.{none_ended, first_found, fewer_left, few_ended, one_ended, all_ended}
+use Rattle.cap_commit.proofs.Prelude.{sym, ◌∙◌, arith, owns, none_pass, none_ended, first_found, fewer_left, few_ended, one_ended, all_ended}
 use Rattle.cap_commit.proofs.cluster.Cluster.end_all.Goals as goal
 
 pub loop-container-init : goal.loop-container-init

@@ -1,6 +1,4 @@
-use Rattle.std.proofs.Common.{length}
-use Rattle.cap_commit.specs.Owners.{owns, containers_owned}
-use Rattle.cap_laws.proofs.ending.EndsLeft.{AreEnding}
+use Rattle.cap_commit.proofs.Prelude.{length, owns, containers_owned, AreEnding}
 use Rattle.cap_commit.proofs.cluster.Cluster.end_all.Given as goal
 
 abbrev pub invariant-loop-container : goal.invariant-loop-container

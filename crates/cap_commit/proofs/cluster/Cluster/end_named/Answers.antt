@@ -1,10 +1,5 @@
 use Rattle.cap_commit.proofs.Fitting.{container_in_cluster, in_cluster, nodes_in_cluster}
-use Rattle.std.specs.Prelude.{◌==◌, find, IfSome, Some, ◌≡◌}
-use Rattle.std.proofs.Common.{ap, arith, get_or, subst, sym, ◌∙◌}
-use Rattle.cap_laws.specs.EngineLaws.{HasDistinctNumbers}
-use Rattle.cap_commit.specs.ClusterState.{ClusterState}
-use Rattle.cap_commit.specs.Owners.{owns}
-use Rattle.cap_laws.proofs.ending.EndsLeft.{none_yet, one_named, none_there, other_there, all_named}
+use Rattle.cap_commit.proofs.Prelude.{◌==◌, find, IfSome, Some, ◌≡◌, ap, arith, get_or, subst, sym, ◌∙◌, HasDistinctNumbers, ClusterState, owns, none_yet, one_named, none_there, other_there, all_named}
 use Rattle.cap_commit.proofs.cluster.Cluster.end_named.Goals.{in-Some, in_default, in_default-via-in-Some+else-has, in_default-via-in_default}
 use Rattle.cap_commit.proofs.cluster.Cluster.end_named.Goals as goal
 

@@ -1,5 +1,4 @@
-use Rattle.cap_commit.specs.Owners.{owns}
-use Rattle.cap_laws.proofs.ending.EndsLeft.{AreNamed}
+use Rattle.cap_commit.proofs.Prelude.{owns, AreNamed}
 use Rattle.cap_commit.proofs.cluster.Cluster.end_named.Given as goal
 
 abbrev pub invariant-loop-number : goal.invariant-loop-number

@@ -1,15 +1,7 @@
-use Rattle.std.proofs.Common.{ap, sym, ◌∙◌, map, arith, subst}
-use Rattle.std.specs.Prelude.{IsSome, is_some, filter, ◌==◌, ◌≡◌, []}
-use Rattle.cap_model.specs.declared.news.Cause.TheVariants.{Released}
-use Rattle.cap_model.specs.Flat.{Flat, Reservation, app_at, containers_of}
-use Rattle.cap_model.specs.FinishMaster.{remove_app}
-use Rattle.cap_tree.specs.Rows.{queues_of, left_row}
-use Rattle.cap_tree.specs.Spot.{path_at}
-use Rattle.cap_commit.specs.ClusterState.{ClusterState, Parts}
+use Rattle.cap_commit.proofs.Prelude.{ap, sym, ◌∙◌, map, arith, subst, IsSome, is_some, filter, ◌==◌, ◌≡◌, [], Released, Flat, Reservation, app_at, containers_of, remove_app, queues_of, left_row, path_at, ClusterState, Parts, zero_count, one_app}
 use Rattle.cap_commit.proofs.Holding.{finished_is, held_left, may_go, placed_at, position_is, with_table}
 use Rattle.cap_commit.proofs.Dropping.{none_stay}
 use Rattle.cap_commit.proofs.Moving.{moved_settings}
-use Rattle.cap_tree.specs.Count.{zero_count, one_app}
 use Rattle.cap_commit.proofs.Owning.{still_active}
 use Rattle.cap_commit.proofs.Sizes.{tree_fits}
 use Rattle.cap_commit.proofs.cluster.Cluster.finish.Goals as goal

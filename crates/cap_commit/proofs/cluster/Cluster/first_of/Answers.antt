@@ -1,10 +1,5 @@
 use Rattle.cap_commit.proofs.Fitting.{nodes_in_cluster}
-use Rattle.std.proofs.Common.{ap, arith, sym, ◌∙◌}
-use Rattle.std.specs.Prelude.{◌==◌, find}
-use Rattle.cap_model.specs.Flat.{Container}
-use Rattle.cap_commit.specs.ClusterState.{ClusterState}
-use Rattle.cap_commit.specs.Owners.{owns}
-use Rattle.cap_laws.proofs.ending.EndsLeft.{first_above}
+use Rattle.cap_commit.proofs.Prelude.{ap, arith, sym, ◌∙◌, ◌==◌, find, Container, ClusterState, owns, first_above}
 use Rattle.cap_commit.proofs.cluster.Cluster.first_of.Goals as goal
 
 pub returns-in-Application-clause-first : goal.returns-in-Application-clause-first

@@ -1,5 +1,4 @@
-use Rattle.std.proofs.Common.{◌∙◌}
-use Rattle.cap_base.specs.Amounts.{fits}
+use Rattle.cap_commit.proofs.Prelude.{◌∙◌, fits}
 use Rattle.cap_commit.proofs.Seen.{fits_is}
 use Rattle.cap_commit.proofs.Fitting.{in_cluster}
 use Rattle.cap_commit.proofs.cluster.Cluster.fits_free.Goals as goal

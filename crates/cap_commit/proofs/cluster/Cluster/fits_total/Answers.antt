@@ -1,6 +1,4 @@
-use Rattle.std.proofs.Common.{ap, ◌∙◌}
-use Rattle.cap_base.specs.Amounts.{fits}
-use Rattle.cap_model.specs.Flat.{ClusterNode}
+use Rattle.cap_commit.proofs.Prelude.{ap, ◌∙◌, fits, ClusterNode}
 use Rattle.cap_commit.proofs.Seen.{fits_is}
 use Rattle.cap_commit.proofs.Fitting.{in_cluster}
 use Rattle.cap_commit.proofs.cluster.Cluster.fits_total.Goals as goal

@@ -1,6 +1,5 @@
 use Rattle.cap_commit.proofs.Fitting.{in_cluster, nodes_in_cluster}
-use Rattle.std.proofs.Common.{ap, arith}
-use Rattle.cap_model.specs.Flat.{AppTable, NodeTable}
+use Rattle.cap_commit.proofs.Prelude.{ap, arith, AppTable, NodeTable}
 use Rattle.cap_commit.proofs.Holding.{held_opened}
 use Rattle.cap_commit.proofs.Sizes.{queue_fits, tree_fits}
 use Rattle.cap_commit.proofs.cluster.Cluster.from_config.Goals as goal

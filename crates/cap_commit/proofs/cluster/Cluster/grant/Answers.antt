@@ -1,20 +1,6 @@
 use Rattle.cap_commit.proofs.Fitting.{in_cluster, node_in_cluster, nodes_in_cluster}
-use Rattle.std.proofs.Common.{◌≤◌, sym, ap, subst, ◌∙◌, arith, length, map, None, [], ◌∷◌, ◌++◌}
-use Rattle.std.specs.Prelude.{◌≡◌, ◌==◌, find, filter, not, option_map, unwrap_or}
-use Rattle.std.proofs.lemmas.List.Sums.{count_by-le-length}
-use Rattle.cap_model.specs.Bounds.{AreApart}
-use Rattle.cap_model.specs.Flat.{Flat, App, ClusterNode, Container, NodeTable, Reservation, change_app}
-use Rattle.cap_model.specs.Sight.{sight_of}
-use Rattle.cap_model.specs.Admission.{reason_of}
-use Rattle.cap_model.specs.Events.{after_grant, take_one}
-use Rattle.cap_tree.specs.Count.{use_alone}
-use Rattle.cap_tree.specs.Rows.{applied_row, queues_of}
-use Rattle.cap_tree.specs.Spot.{path_at}
-use Rattle.cap_asks.specs.Apps.{UsesRoom}
-use Rattle.cap_commit.specs.ClusterState.{ClusterState, flat_of}
-use Rattle.cap_commit.specs.Admission.{taken_back}
+use Rattle.cap_commit.proofs.Prelude.{◌≤◌, sym, ap, subst, ◌∙◌, arith, length, map, None, [], ◌∷◌, ◌++◌, ◌≡◌, ◌==◌, find, filter, not, option_map, unwrap_or, count_by-le-length, AreApart, Flat, App, ClusterNode, Container, NodeTable, Reservation, change_app, sight_of, reason_of, after_grant, take_one, use_alone, applied_row, queues_of, path_at, UsesRoom, ClusterState, flat_of, taken_back, IsSound}
 use Rattle.cap_commit.proofs.Granting.{its_app, its_node, its_room, few_live_yet, numbers_are_left}
-use Rattle.cap_nodes.specs.Tables.{IsSound}
 use Rattle.cap_commit.proofs.Granted.{found_again, granted_is, held_granted, kind_is, may_take_back, nodes_with, room_stays, root_stays, app_again}
 use Rattle.cap_commit.proofs.Holding.{placed_at, position_is}
 use Rattle.cap_commit.proofs.Moving.{moved_settings}

@@ -1,7 +1,4 @@
-use Rattle.std.proofs.Common.{ap, sym, ◌∙◌}
-use Rattle.std.specs.Prelude.{option_and_then, option_map}
-use Rattle.cap_model.specs.Sight.{NodeSight}
-use Rattle.cap_commit.specs.Admission.{load_sight}
+use Rattle.cap_commit.proofs.Prelude.{ap, sym, ◌∙◌, option_and_then, option_map, NodeSight, load_sight}
 use Rattle.cap_commit.proofs.Fitting.{in_cluster}
 use Rattle.cap_commit.proofs.cluster.Cluster.held.Goals as goal
 

@@ -1,9 +1,5 @@
 use Rattle.cap_commit.proofs.Fitting.{in_cluster, nodes_in_cluster, reservation_in_cluster}
-use Rattle.std.proofs.Common.{ap, sym, ◌∙◌, arith}
-use Rattle.std.specs.Prelude.{filter, find}
-use Rattle.std.specs.List.{slice_get}
-use Rattle.cap_model.specs.Flat.{Flat, NodeTable, is_for}
-use Rattle.cap_nodes.specs.Loads.{made_after}
+use Rattle.cap_commit.proofs.Prelude.{ap, sym, ◌∙◌, arith, filter, find, slice_get, Flat, NodeTable, is_for, made_after}
 use Rattle.cap_commit.proofs.Dropping.{none_dropped, one_dropped, all_dropped, fewer_left, passes_found, takes_place}
 use Rattle.cap_commit.proofs.cluster.Cluster.keep_first.Goals as goal
 

@@ -1,7 +1,4 @@
-use Rattle.std.proofs.Common.{◌≡◌, length}
-use Rattle.std.specs.Prelude.{filter}
-use Rattle.std.specs.List.{slice_get}
-use Rattle.cap_model.specs.Flat.{is_for}
+use Rattle.cap_commit.proofs.Prelude.{◌≡◌, length, filter, slice_get, is_for}
 use Rattle.cap_commit.proofs.Dropping.{IsKeeping}
 use Rattle.cap_commit.proofs.cluster.Cluster.keep_first.Given as goal
 

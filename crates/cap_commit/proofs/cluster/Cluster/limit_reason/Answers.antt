@@ -1,5 +1,4 @@
-use Rattle.std.proofs.Common.{None, Some, arith}
-use Rattle.cap_tree.specs.declared.over_limit.OverLimit.TheVariants.{Maximum, User}
+use Rattle.cap_commit.proofs.Prelude.{None, Some, arith, Maximum, User}
 use Rattle.cap_commit.proofs.Limiting.{at_leaf, limit_is}
 use Rattle.cap_commit.proofs.Sizes.{tree_fits}
 use Rattle.cap_commit.proofs.Fitting.{in_cluster}

@@ -1,6 +1,5 @@
 use Rattle.cap_commit.proofs.Fitting.{in_cluster, nodes_in_cluster}
-use Rattle.std.proofs.Common.{ap, ◌∙◌}
-use Rattle.cap_model.specs.Flat.{node_in}
+use Rattle.cap_commit.proofs.Prelude.{ap, ◌∙◌, node_in}
 use Rattle.cap_commit.proofs.Seen.{load_seen, node_seen}
 use Rattle.cap_commit.proofs.cluster.Cluster.load.Goals as goal
 

@@ -1,8 +1,5 @@
 use Rattle.cap_commit.proofs.Fitting.{amounts_in_cluster, container_in_cluster, reservation_in_cluster}
-use Rattle.std.proofs.Common.{sym, subst, ◌∙◌}
-use Rattle.cap_model.specs.Sight.{sight_of}
-use Rattle.cap_model.specs.Admission.{IsAdmissible}
-use Rattle.cap_laws.proofs.choice.Reasons.{rejected_exactly}
+use Rattle.cap_commit.proofs.Prelude.{sym, subst, ◌∙◌, sight_of, IsAdmissible, rejected_exactly}
 use Rattle.cap_commit.proofs.cluster.Cluster.make.Goals as goal
 
 pub returns-in-Ok-clause-ok : goal.returns-in-Ok-clause-ok

@@ -1,5 +1,4 @@
-use Rattle.std.specs.Prelude.{slice_index_or}
-use Rattle.cap_laws.proofs.bounds.ReservedNodes.{its_node_there}
+use Rattle.cap_commit.proofs.Prelude.{slice_index_or, its_node_there}
 use Rattle.cap_commit.proofs.cluster.Cluster.nodes.Goals as goal
 
 pub returns-clause-present : goal.returns-clause-present

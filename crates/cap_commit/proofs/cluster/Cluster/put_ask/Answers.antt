@@ -1,11 +1,5 @@
-use Rattle.cap_asks.specs.Apps.{ask_room}
+use Rattle.cap_commit.proofs.Prelude.{ask_room, ◌≡◌, ap, refl, subst, ◌∙◌, List, ℕ, ◌≤◌, sym, round_up, Ask, rounded_ask, ClusterState, Parts, flat_of, ask_put}
 use Rattle.cap_commit.proofs.Fitting.{apps_fit, ask_in_cluster, in_cluster}
-use Rattle.std.proofs.Common.{◌≡◌, ap, refl, subst, ◌∙◌, List, ℕ, ◌≤◌, sym}
-use Rattle.cap_vector.specs.Rounding.{round_up}
-use Rattle.cap_model.specs.Asks.{Ask}
-use Rattle.cap_model.specs.Asking.{rounded_ask}
-use Rattle.cap_commit.specs.ClusterState.{ClusterState, Parts, flat_of}
-use Rattle.cap_laws.proofs.bounds.KeptReservations.{ask_put}
 use Rattle.cap_commit.proofs.Holding.{held_app}
 use Rattle.cap_commit.proofs.cluster.Cluster.put_ask.Goals as goal
 

@@ -1,5 +1,4 @@
-use Rattle.std.proofs.Common.{true, refl}
-use Rattle.cap_model.specs.Flat.{App}
+use Rattle.cap_commit.proofs.Prelude.{true, refl, App}
 use Rattle.cap_commit.proofs.Holding.{held_app}
 use Rattle.cap_commit.proofs.cluster.Cluster.register.Goals as goal
 

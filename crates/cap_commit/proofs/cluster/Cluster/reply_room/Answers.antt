@@ -1,8 +1,5 @@
 use Rattle.cap_commit.proofs.Fitting.{apps_fit}
-use Rattle.std.proofs.Common.{◌≡◌, ◌∙◌, ap, sym, length}
-use Rattle.std.specs.Prelude.{Some}
-use Rattle.std.proofs.lemmas.Result.{IfOk-weaker}
-use Rattle.cap_model.specs.Reporting.{HasRoomForReplies, NewsRoom, news_most, reports_most}
+use Rattle.cap_commit.proofs.Prelude.{◌≡◌, ◌∙◌, ap, sym, length, Some, IfOk-weaker, HasRoomForReplies, NewsRoom, news_most, reports_most}
 use Rattle.cap_commit.proofs.Viewing.{has_some, has_other, most_of, most_other}
 use Rattle.cap_commit.proofs.cluster.Cluster.reply_room.Goals as goal
 

@@ -1,13 +1,5 @@
 use Rattle.cap_commit.proofs.Fitting.{nodes_in_cluster, amounts_in_cluster}
-use Rattle.std.proofs.Common.{sym, ap, subst, ◌∙◌, arith, map}
-use Rattle.std.specs.Prelude.{◌==◌, find}
-use Rattle.cap_model.specs.Flat.{App}
-use Rattle.cap_model.specs.Events.{add_reservation}
-use Rattle.cap_tree.specs.Count.{use_alone}
-use Rattle.cap_tree.specs.Rows.{applied_row, queues_of}
-use Rattle.cap_tree.specs.Spot.{path_at}
-use Rattle.cap_commit.specs.ClusterState.{flat_of}
-use Rattle.cap_nodes.specs.Tables.{IsSound}
+use Rattle.cap_commit.proofs.Prelude.{sym, ap, subst, ◌∙◌, arith, map, ◌==◌, find, App, add_reservation, use_alone, applied_row, queues_of, path_at, flat_of, IsSound}
 use Rattle.cap_commit.proofs.Granted.{app_again}
 use Rattle.cap_commit.proofs.Granting.{its_app}
 use Rattle.cap_commit.proofs.Keeping.{held_reserved, may_take_none, reserve_kind, reserved_is, root_keeps}

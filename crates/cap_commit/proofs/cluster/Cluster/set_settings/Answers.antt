@@ -1,6 +1,4 @@
-use Rattle.std.proofs.Common.{ap, ◌∙◌}
-use Rattle.cap_tree.specs.Rows.{queues_of}
-use Rattle.cap_commit.specs.declared.limits.Limits.{Limits}
+use Rattle.cap_commit.proofs.Prelude.{ap, ◌∙◌, queues_of, Limits}
 use Rattle.cap_commit.proofs.Holding.{held_settings, with_queues}
 use Rattle.cap_commit.proofs.Ties.{rows_change}
 use Rattle.cap_commit.proofs.Fitting.{in_cluster}

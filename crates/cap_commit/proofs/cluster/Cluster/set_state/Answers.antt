@@ -1,7 +1,4 @@
-use Rattle.std.proofs.Common.{ap, ◌∙◌, arith}
-use Rattle.cap_tree.specs.Rows.{queues_of}
-use Rattle.cap_tree.specs.Spot.{path_at}
-use Rattle.cap_tree.proofs.Listings.{state_in_settings}
+use Rattle.cap_commit.proofs.Prelude.{ap, ◌∙◌, arith, queues_of, path_at, state_in_settings}
 use Rattle.cap_commit.proofs.Holding.{held_settings, with_queues}
 use Rattle.cap_commit.proofs.Ties.{state_changes}
 use Rattle.cap_commit.proofs.Sizes.{tree_fits}

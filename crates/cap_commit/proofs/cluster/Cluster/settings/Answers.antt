@@ -1,5 +1,4 @@
-use Rattle.cap_commit.specs.ClusterState.{ClusterState}
-use Rattle.std.proofs.Common.{ap}
+use Rattle.cap_commit.proofs.Prelude.{ClusterState, ap}
 use Rattle.cap_commit.proofs.cluster.Cluster.settings.Goals as goal
 
 pub returns-clause-apps : goal.returns-clause-apps

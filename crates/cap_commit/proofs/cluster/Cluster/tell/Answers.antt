@@ -1,7 +1,4 @@
-use Rattle.std.proofs.Common.{refl}
-use Rattle.cap_model.specs.Flat.{App}
-use Rattle.cap_model.specs.Allocate.{after_telling}
-use Rattle.cap_laws.proofs.bounds.KeptReservations.{told_is, unknown_is}
+use Rattle.cap_commit.proofs.Prelude.{refl, App, after_telling, told_is, unknown_is}
 use Rattle.cap_commit.proofs.Holding.{held_app}
 use Rattle.cap_commit.proofs.cluster.Cluster.tell.Goals as goal
 

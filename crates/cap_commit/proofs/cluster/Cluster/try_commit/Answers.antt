@@ -1,8 +1,5 @@
 use Rattle.cap_commit.proofs.Fitting.{amounts_in_cluster}
-use Rattle.std.proofs.Common.{sym}
-use Rattle.std.proofs.lemmas.Result.{on_err_weaker}
-use Rattle.cap_model.specs.Sight.{sight_of}
-use Rattle.cap_laws.proofs.choice.Reasons.{rejected_exactly}
+use Rattle.cap_commit.proofs.Prelude.{sym, on_err_weaker, sight_of, rejected_exactly}
 use Rattle.cap_commit.proofs.cluster.Cluster.try_commit.Goals as goal
 
 pub returns-in-Ok-clause-admissible : goal.returns-in-Ok-clause-admissible

@@ -1,15 +1,8 @@
 use Rattle.cap_commit.proofs.Fitting.{in_cluster, nodes_in_cluster}
-use Rattle.std.proofs.Common.{ap, sym, ◌∙◌, map, arith}
-use Rattle.std.specs.Prelude.{filter}
-use Rattle.cap_model.specs.Flat.{with_reserved}
-use Rattle.cap_tree.specs.Rows.{queues_of, lowered_row}
-use Rattle.cap_tree.specs.Spot.{path_at}
-use Rattle.cap_nodes.proofs.Reserved.{is_elsewhere}
-use Rattle.cap_commit.specs.ClusterState.{flat_of}
+use Rattle.cap_commit.proofs.Prelude.{ap, sym, ◌∙◌, map, arith, filter, with_reserved, queues_of, lowered_row, path_at, is_elsewhere, flat_of, zero_count, use_alone}
 use Rattle.cap_commit.proofs.Unreserving.{place_of, has_holder, may_give_reserved, held_dropped, dropped_is}
 use Rattle.cap_commit.proofs.Holding.{placed_at, position_is}
 use Rattle.cap_commit.proofs.Moving.{moved_settings}
-use Rattle.cap_tree.specs.Count.{zero_count, use_alone}
 use Rattle.cap_commit.proofs.Sizes.{tree_fits}
 use Rattle.cap_commit.proofs.cluster.Cluster.unreserve.Goals as goal
 

@@ -1,7 +1,5 @@
 use Rattle.cap_commit.proofs.Fitting.{nodes_in_cluster, reservation_in_cluster}
-use Rattle.std.proofs.Common.{ap, sym, ◌∙◌, arith}
-use Rattle.std.specs.Prelude.{find, ◌==◌}
-use Rattle.cap_model.specs.Flat.{NodeTable, Reservation, with_reserved}
+use Rattle.cap_commit.proofs.Prelude.{ap, sym, ◌∙◌, arith, find, ◌==◌, NodeTable, Reservation, with_reserved}
 use Rattle.cap_commit.proofs.Dropping.{none_dropped, one_dropped, all_dropped, fewer_left, passes_found, first_passes, keep_none}
 use Rattle.cap_commit.proofs.cluster.Cluster.unreserve_app.Goals as goal
 

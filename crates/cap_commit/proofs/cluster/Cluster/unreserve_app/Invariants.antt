@@ -1,6 +1,4 @@
-use Rattle.std.proofs.Common.{length}
-use Rattle.std.specs.Prelude.{◌==◌}
-use Rattle.cap_model.specs.Flat.{Reservation}
+use Rattle.cap_commit.proofs.Prelude.{length, ◌==◌, Reservation}
 use Rattle.cap_commit.proofs.Dropping.{IsKeeping}
 use Rattle.cap_commit.proofs.cluster.Cluster.unreserve_app.Given as goal
 

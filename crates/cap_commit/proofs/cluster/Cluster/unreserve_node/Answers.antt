@@ -1,9 +1,5 @@
 use Rattle.cap_commit.proofs.Fitting.{nodes_in_cluster, reservation_in_cluster}
-use Rattle.std.proofs.Common.{ap, sym, ◌∙◌, arith}
-use Rattle.std.specs.Prelude.{filter}
-use Rattle.cap_model.specs.Flat.{with_reserved}
-use Rattle.cap_nodes.proofs.Reserved.{is_elsewhere, all_elsewhere}
-use Rattle.cap_commit.specs.ClusterState.{Parts, flat_of}
+use Rattle.cap_commit.proofs.Prelude.{ap, sym, ◌∙◌, arith, filter, with_reserved, is_elsewhere, all_elsewhere, Parts, flat_of}
 use Rattle.cap_commit.proofs.Dropping.{same_node, found_again}
 use Rattle.cap_commit.proofs.cluster.Cluster.unreserve_node.Goals as goal
 

@@ -1,6 +1,5 @@
 use Rattle.cap_commit.proofs.Fitting.{apps_fit}
-use Rattle.std.proofs.Common.{arith}
-use Rattle.cap_model.specs.Allocate.{kept_reply}
+use Rattle.cap_commit.proofs.Prelude.{arith, kept_reply}
 use Rattle.cap_commit.proofs.Viewing.{viewed, not_numbers}
 use Rattle.cap_commit.proofs.cluster.Cluster.view.Goals as goal
 

@@ -1,7 +1,5 @@
 use Rattle.cap_commit.proofs.Fitting.{in_cluster, nodes_in_cluster}
-use Rattle.std.proofs.Common.{sym, ◌∙◌}
-use Rattle.std.specs.Prelude.{◌||◌}
-use Rattle.cap_base.proofs.lists.Tests.{or_false}
+use Rattle.cap_commit.proofs.Prelude.{sym, ◌∙◌, ◌||◌, or_false}
 use Rattle.cap_commit.proofs.Seen.{wants_seen}
 use Rattle.cap_commit.proofs.cluster.Cluster.wants.Goals as goal
 

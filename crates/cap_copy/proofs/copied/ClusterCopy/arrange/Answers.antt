@@ -1,16 +1,4 @@
-use Rattle.std.proofs.Common.{◌≤◌, List, length, map, subst, sym, ap, arith, ◌∙◌}
-use Rattle.std.specs.List.{All}
-use Rattle.cap_base.specs.Limits.{applications_max}
-use Rattle.cap_model.specs.Sight.{NodeSight}
-use Rattle.cap_tree.specs.Seen.{SeenRows}
-use Rattle.cap_tree.specs.Spot.{IsPosition}
-use Rattle.cap_base.proofs.lists.Filters.{map_twice}
-use Rattle.cap_copy.specs.declared.ranges.AskRange.{AskRange}
-use Rattle.cap_copy.specs.AskRanges.{AreApart, AreRanges}
-use Rattle.cap_copy.specs.Entries.{beside}
-use Rattle.cap_copy.specs.SeenApp.{SeenApp, range_in}
-use Rattle.cap_copy.specs.Snapshot.{AreSkips}
-use Rattle.cap_copy.specs.Sources.{Parts, held_apps_in, nodes_in}
+use Rattle.cap_copy.proofs.Prelude.{◌≤◌, List, length, map, subst, sym, ap, arith, ◌∙◌, All, applications_max, NodeSight, SeenRows, IsPosition, map_twice, AskRange, AreApart, AreRanges, beside, SeenApp, range_in, AreSkips, Parts, held_apps_in, nodes_in}
 use Rattle.cap_copy.proofs.Fitting.{tree_in_copy}
 use Rattle.cap_copy.proofs.Seeing.{apart_ranges}
 use Rattle.cap_copy.proofs.Sights.{few_apps, is_stored, made_of_parts, placed_all, placed_apps, rising_apps}

@@ -1,12 +1,4 @@
-use Rattle.std.proofs.Common.{rules, ◌++◌, ◌∷◌, [], List, ◌≤◌, ap, length, map, subst, sym, ◌∙◌, arith}
-use Rattle.std.specs.List.{All}
-use Rattle.std.proofs.lemmas.List.{length-map}
-use Rattle.cap_base.specs.Limits.{applications_max}
-use Rattle.cap_tree.specs.Spot.{IsPosition}
-use Rattle.cap_asks.specs.Accounts.{AreKept, HeldApp}
-use Rattle.cap_copy.specs.SeenApp.{AreSeen, SeenApp}
-use Rattle.cap_copy.specs.Entries.{asks_of_all}
-use Rattle.cap_copy.specs.Sources.{IsCopied, IsCopy, Parts, held_apps_in, nodes_in}
+use Rattle.cap_copy.proofs.Prelude.{rules, ◌++◌, ◌∷◌, [], List, ◌≤◌, ap, length, map, subst, sym, ◌∙◌, arith, All, length-map, applications_max, IsPosition, AreKept, HeldApp, AreSeen, SeenApp, asks_of_all, IsCopied, IsCopy, Parts, held_apps_in, nodes_in}
 use Rattle.cap_copy.proofs.Fitting.{nodes_of_few, seen_app_of_few, seen_node_of_few, tree_in_snapshot}
 use Rattle.cap_copy.proofs.Sights.{few_waiting, placed_all, positions_there}
 use Rattle.cap_copy.proofs.copied.ClusterCopy.take.Goals as goal

@@ -1,7 +1,4 @@
-use Rattle.std.proofs.Common.{◌∙◌, ap, length, sym}
-use Rattle.std.proofs.lemmas.List.{length-map}
-use Rattle.cap_copy.specs.SeenApp.{SeenApp}
-use Rattle.cap_tree.specs.ServiceOrder.{waiting_cmp}
+use Rattle.cap_copy.proofs.Prelude.{◌∙◌, ap, length, sym, length-map, SeenApp, waiting_cmp}
 use Rattle.cap_copy.proofs.Order.{as_many, waiting_total}
 use Rattle.cap_copy.proofs.snapshot.Snapshot.app_count.Goals as goal
 

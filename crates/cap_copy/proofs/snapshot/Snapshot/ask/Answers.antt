@@ -1,6 +1,4 @@
-use Rattle.std.proofs.Common.{refl, sym, subst, ◌<◌, length}
-use Rattle.std.proofs.lemmas.Option.{slice_get_read}
-use Rattle.cap_copy.specs.Snapshot.{Seen}
+use Rattle.cap_copy.proofs.Prelude.{refl, sym, subst, ◌<◌, length, slice_get_read, Seen}
 use Rattle.cap_copy.proofs.snapshot.Snapshot.ask.Goals as goal
 
 pub returns : goal.returns

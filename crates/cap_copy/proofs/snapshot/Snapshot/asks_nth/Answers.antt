@@ -1,9 +1,4 @@
-use Rattle.std.proofs.Common.{◌∙◌, ◌<◌, ap, arith, length, refl, subst, sym}
-use Rattle.std.specs.Prelude.{Some, option_map}
-use Rattle.std.proofs.lemmas.List.{length-map}
-use Rattle.std.proofs.lemmas.Option.{slice_get-map, slice_get_read}
-use Rattle.cap_copy.specs.SeenApp.{range_in}
-use Rattle.cap_copy.specs.Snapshot.{Seen}
+use Rattle.cap_copy.proofs.Prelude.{◌∙◌, ◌<◌, ap, arith, length, refl, subst, sym, Some, option_map, length-map, slice_get-map, slice_get_read, range_in, Seen}
 use Rattle.cap_copy.proofs.Fitting.{seen_app_of_few}
 use Rattle.cap_copy.proofs.snapshot.Snapshot.asks_nth.Goals as goal
 

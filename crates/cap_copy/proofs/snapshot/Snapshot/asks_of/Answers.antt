@@ -1,7 +1,4 @@
-use Rattle.std.proofs.Common.{List, map, subst, sym}
-use Rattle.std.specs.Prelude.{Some, None}
-use Rattle.cap_copy.specs.AskRanges.{AreApart, IsRangeOf}
-use Rattle.cap_copy.specs.SeenApp.{SeenApp, range_in}
+use Rattle.cap_copy.proofs.Prelude.{List, map, subst, sym, Some, None, AreApart, IsRangeOf, SeenApp, range_in}
 use Rattle.cap_copy.proofs.Fitting.{seen_app_of_few}
 use Rattle.cap_copy.proofs.Ranging.{inside_none, inside_range}
 use Rattle.cap_copy.proofs.snapshot.Snapshot.asks_of.Goals as goal

@@ -1,5 +1,4 @@
-use Rattle.cap_copy.specs.Snapshot.{Seen}
-use Rattle.std.proofs.Common.{ap}
+use Rattle.cap_copy.proofs.Prelude.{Seen, ap}
 use Rattle.cap_copy.proofs.snapshot.Snapshot.live.Goals as goal
 
 pub returns : goal.returns

@@ -1,6 +1,4 @@
-use Rattle.std.proofs.Common.{◌<◌, ◌∙◌, length, subst, sym, arith}
-use Rattle.std.proofs.lemmas.Grind.{get_or_default_zero}
-use Rattle.cap_copy.specs.Snapshot.{IsSkip, Seen}
+use Rattle.cap_copy.proofs.Prelude.{◌<◌, ◌∙◌, length, subst, sym, arith, get_or_default_zero, IsSkip, Seen}
 use Rattle.cap_copy.proofs.snapshot.Snapshot.skip.Goals as goal
 
 pub returns : goal.returns

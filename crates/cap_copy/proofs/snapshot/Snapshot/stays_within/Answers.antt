@@ -1,16 +1,5 @@
-use Rattle.std.proofs.Common.{◌≡◌, ◌<◌, length, refl, sym, subst, ◌∙◌, ap, arith, map}
-use Rattle.std.specs.List.{slice_get}
-use Rattle.std.proofs.lemmas.List.{length-map}
-use Rattle.std.proofs.lemmas.Option.{slice_get_read}
-use Rattle.cap_base.proofs.lists.Members.{each_of}
-use Rattle.cap_tree.specs.Spot.{IsPosition}
-use Rattle.cap_copy.specs.Limits.{limit_of}
-use Rattle.cap_copy.specs.SeenApp.{SeenApp, user_used}
-use Rattle.cap_copy.specs.Snapshot.{Seen, stays_within}
+use Rattle.cap_copy.proofs.Prelude.{◌≡◌, ◌<◌, length, refl, sym, subst, ◌∙◌, ap, arith, map, slice_get, length-map, slice_get_read, each_of, IsPosition, limit_of, SeenApp, user_used, Seen, stays_within, Ask, holds_of, stays_in_limits}
 use Rattle.cap_copy.proofs.Fitting.{amounts_in_snapshot, tree_in_snapshot}
-use Rattle.cap_model.specs.Asks.{Ask}
-use Rattle.cap_base.specs.Cascade.{holds_of}
-use Rattle.cap_tree.specs.Limits.{stays_in_limits}
 use Rattle.cap_copy.proofs.LoopSteps.{slice_get_in}
 use Rattle.cap_copy.proofs.Seeing.{within_limits}
 use Rattle.cap_copy.proofs.snapshot.Snapshot.stays_within.Goals as goal

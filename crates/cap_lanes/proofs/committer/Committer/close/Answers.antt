@@ -1,8 +1,4 @@
-use Rattle.std.proofs.Common.{◌++◌, ap, ◌∙◌, sym, subst}
-use Rattle.cap_lanes.specs.declared.view.View.{View}
-use Rattle.cap_lanes.specs.Items.{messages_of, is_over, proposals, puts_in, tagged}
-use Rattle.cap_lanes.specs.ChannelRule.{puts_by, times}
-use Rattle.cap_lanes.specs.Sides.{CommitterSide, AllOver}
+use Rattle.cap_lanes.proofs.Prelude.{◌++◌, ap, ◌∙◌, sym, subst, View, messages_of, is_over, proposals, puts_in, tagged, puts_by, times, CommitterSide, AllOver}
 use Rattle.cap_lanes.proofs.Tallies.{alike_by, alike_times, over_by_flags}
 use Rattle.cap_lanes.proofs.committer.Committer.close.Goals as goal
 

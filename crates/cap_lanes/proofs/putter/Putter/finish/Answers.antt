@@ -1,7 +1,4 @@
-use Rattle.std.proofs.Common.{ap, ◌∙◌}
-use Rattle.cap_lanes.specs.Sides.{worker_side}
-use Rattle.cap_lanes.specs.Ends.{lanes_id}
-use Rattle.crossbeam_channel.specs.Ends.{sends_on}
+use Rattle.cap_lanes.proofs.Prelude.{ap, ◌∙◌, worker_side, lanes_id, sends_on}
 use Rattle.cap_lanes.proofs.putter.Putter.finish.Goals as goal
 
 pub returns : goal.returns

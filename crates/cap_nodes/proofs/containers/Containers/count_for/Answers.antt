@@ -1,5 +1,4 @@
-use Rattle.std.proofs.Common.{ap, sym, ◌∙◌, length, arith}
-use Rattle.cap_nodes.specs.Loads.{is_kept_for}
+use Rattle.cap_nodes.proofs.Prelude.{ap, sym, ◌∙◌, length, arith, is_kept_for}
 use Rattle.cap_nodes.proofs.Walked.{rest_of_all, no_more, one_more, next_within}
 use Rattle.cap_nodes.proofs.containers.Containers.count_for.Goals as goal
 

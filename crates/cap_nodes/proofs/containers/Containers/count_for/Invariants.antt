@@ -1,6 +1,4 @@
-use Rattle.std.proofs.Common.{◌≡◌, ◌≤◌, ◌+◌, ◌-◌, ℕ, length}
-use Rattle.std.specs.Prelude.{filter}
-use Rattle.cap_nodes.specs.Loads.{is_kept_for}
+use Rattle.cap_nodes.proofs.Prelude.{◌≡◌, ◌≤◌, ◌+◌, ◌-◌, ℕ, length, filter, is_kept_for}
 use Rattle.cap_nodes.proofs.Walked.{rest}
 use Rattle.cap_nodes.proofs.containers.Containers.count_for.Given as goal
 

@@ -1,7 +1,4 @@
-use Rattle.std.proofs.Common.{◌≡◌, ◌∙◌, sym, true, false, arith}
-use Rattle.std.specs.Prelude.{◌==◌}
-use Rattle.cap_model.specs.Asks.{same_key}
-use Rattle.cap_model.specs.Flat.{Container}
+use Rattle.cap_nodes.proofs.Prelude.{◌≡◌, ◌∙◌, sym, true, false, arith, ◌==◌, same_key, Container}
 use Rattle.cap_nodes.proofs.Walked.{next_for, next_within, none_for}
 use Rattle.cap_nodes.proofs.containers.Containers.next_for.Goals as goal
 

@@ -1,5 +1,4 @@
-use Rattle.std.proofs.Common.{◌≡◌, ◌-◌, ◌&&◌, find, nat_lt}
-use Rattle.cap_nodes.specs.Loads.{is_kept_for}
+use Rattle.cap_nodes.proofs.Prelude.{◌≡◌, ◌-◌, ◌&&◌, find, nat_lt, is_kept_for}
 use Rattle.cap_nodes.proofs.containers.Containers.next_for.Given as goal
 
 -- the next one is the same from where the walk is

@@ -1,6 +1,4 @@
-use Rattle.std.proofs.Common.{◌∙◌}
-use Rattle.std.specs.Map.{values_of}
-use Rattle.cap_model.specs.Flat.{Container}
+use Rattle.cap_nodes.proofs.Prelude.{◌∙◌, values_of, Container}
 use Rattle.cap_nodes.proofs.ByNumber.{found}
 use Rattle.cap_nodes.proofs.Owned.{first_of, none_of}
 use Rattle.cap_nodes.proofs.containers.Containers.next_on_node.Goals as goal

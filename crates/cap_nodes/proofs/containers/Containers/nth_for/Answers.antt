@@ -1,6 +1,4 @@
-use Rattle.std.proofs.Common.{ap, refl, sym, ◌∙◌, arith}
-use Rattle.std.specs.List.{slice_get}
-use Rattle.cap_nodes.specs.Loads.{is_kept_for}
+use Rattle.cap_nodes.proofs.Prelude.{ap, refl, sym, ◌∙◌, arith, slice_get, is_kept_for}
 use Rattle.cap_nodes.proofs.Walked.{rest_of_all, no_more, one_more, next_within, first_read, later_read}
 use Rattle.cap_nodes.proofs.containers.Containers.nth_for.Goals as goal
 

@@ -1,7 +1,4 @@
-use Rattle.std.proofs.Common.{◌≡◌, ◌-◌}
-use Rattle.std.specs.Prelude.{filter}
-use Rattle.std.specs.List.{slice_get}
-use Rattle.cap_nodes.specs.Loads.{is_kept_for}
+use Rattle.cap_nodes.proofs.Prelude.{◌≡◌, ◌-◌, filter, slice_get, is_kept_for}
 use Rattle.cap_nodes.proofs.Walked.{rest}
 use Rattle.cap_nodes.proofs.containers.Containers.nth_for.Given as goal
 

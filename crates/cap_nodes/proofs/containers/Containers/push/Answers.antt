@@ -1,8 +1,4 @@
-use Rattle.std.proofs.Common.{◌+◌, ◌<◌, ap, sym, subst, refl, List, length}
-use Rattle.std.specs.Map.{values_of}
-use Rattle.cap_base.specs.Limits.{live_max}
-use Rattle.cap_model.specs.Flat.{Container}
-use Rattle.cap_nodes.specs.Loads.{ContainerTable, IsOwnerIndex}
+use Rattle.cap_nodes.proofs.Prelude.{◌+◌, ◌<◌, ap, sym, subst, refl, List, length, values_of, live_max, Container, ContainerTable, IsOwnerIndex}
 use Rattle.cap_nodes.proofs.ByNumber.{pushed, fresh}
 use Rattle.cap_nodes.proofs.Owned.{index_pushed, index_back}
 use Rattle.cap_nodes.proofs.containers.Containers.push.Goals as goal

@@ -1,8 +1,4 @@
-use Rattle.std.proofs.Common.{◌≡◌, ◌∙◌, ap, sym, subst, List, Some}
-use Rattle.std.specs.Prelude.{find, ◌==◌}
-use Rattle.std.specs.Map.{values_of}
-use Rattle.cap_model.specs.Flat.{Container}
-use Rattle.cap_nodes.specs.Loads.{ContainerTable, IsOwnerIndex}
+use Rattle.cap_nodes.proofs.Prelude.{◌≡◌, ◌∙◌, ap, sym, subst, List, Some, find, ◌==◌, values_of, Container, ContainerTable, IsOwnerIndex}
 use Rattle.cap_nodes.proofs.ByNumber.{removed, found}
 use Rattle.cap_nodes.proofs.Owned.{index_left}
 use Rattle.cap_nodes.proofs.containers.Containers.remove.Goals as goal

@@ -1,7 +1,5 @@
 use Rattle.cap_nodes.proofs.Sizes.{present_fits}
-use Rattle.std.proofs.Common.{map, ◌∙◌, ap, sym, List, refl}
-use Rattle.cap_nodes.specs.Loads.{beaten_load, reservation_of}
-use Rattle.cap_model.specs.Flat.{ClusterNode, NodeTable}
+use Rattle.cap_nodes.proofs.Prelude.{map, ◌∙◌, ap, sym, List, refl, beaten_load, reservation_of, ClusterNode, NodeTable}
 use Rattle.cap_nodes.proofs.Changes.{load_of_node, is_at, with_beat, nodes_beaten, totals_beaten, kept_shown, rising_changed}
 use Rattle.cap_nodes.proofs.Reserving.{have_changed}
 use Rattle.cap_nodes.proofs.nodes.Nodes.beat.Goals as goal

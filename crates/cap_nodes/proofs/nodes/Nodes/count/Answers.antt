@@ -1,6 +1,5 @@
 use Rattle.cap_nodes.proofs.Sizes.{present_fits}
-use Rattle.std.proofs.lemmas.List.{length-map}
-use Rattle.std.proofs.Common.{◌∙◌, sym}
+use Rattle.cap_nodes.proofs.Prelude.{length-map, ◌∙◌, sym}
 use Rattle.cap_nodes.proofs.nodes.Nodes.count.Goals as goal
 
 pub returns-clause-value : goal.returns-clause-value

@@ -1,11 +1,5 @@
 use Rattle.cap_nodes.proofs.Sizes.{amounts_fit, present_fits, node_fits, load_fits}
-use Rattle.std.proofs.Common.{map, ◌≡◌, ◌∙◌, [], ap, sym, List, length, not, arith}
-use Rattle.std.specs.Prelude.{filter, ◌==◌}
-use Rattle.cap_vector.specs.Vector.{less, amount_max}
-use Rattle.cap_model.proofs.lists.Numbered.{rising_kept}
-use Rattle.cap_nodes.specs.Loads.{Load, reservation_of}
-use Rattle.cap_model.specs.Flat.{ClusterNode, Container, NodeTable}
-use Rattle.cap_model.specs.RegisterNode.{sum_of_totals}
+use Rattle.cap_nodes.proofs.Prelude.{map, ◌≡◌, ◌∙◌, [], ap, sym, List, length, not, arith, filter, ◌==◌, less, amount_max, rising_kept, Load, reservation_of, ClusterNode, Container, NodeTable, sum_of_totals}
 use Rattle.cap_nodes.proofs.Changes.{nodes_of, no_load, without_empty, nodes_kept, total_fits, total_without}
 use Rattle.cap_nodes.proofs.Sums.{less_within}
 use Rattle.cap_nodes.proofs.Reserving.{have_kept}

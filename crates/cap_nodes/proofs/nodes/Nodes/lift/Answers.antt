@@ -1,12 +1,7 @@
 use Rattle.cap_nodes.proofs.Sizes.{present_fits, amounts_fit, containers_fit}
-use Rattle.std.proofs.Common.{map, ◌∙◌, ◌≤◌, ap, sym, List, refl, length, arith, not}
-use Rattle.std.specs.Prelude.{filter, ◌==◌}
-use Rattle.cap_model.specs.Flat.{ClusterNode, Container, NodeTable}
-use Rattle.cap_model.specs.RegisterNode.{sum_of_totals}
-use Rattle.cap_nodes.specs.Loads.{held_less, HasOne, reservation_of}
+use Rattle.cap_nodes.proofs.Prelude.{map, ◌∙◌, ◌≤◌, ap, sym, List, refl, length, arith, not, filter, ◌==◌, ClusterNode, Container, NodeTable, sum_of_totals, held_less, HasOne, reservation_of, one_completed}
 use Rattle.cap_nodes.proofs.Presents.{if_found}
 use Rattle.cap_nodes.proofs.Changes.{home_of, has_it, nodes_of, without_one, same_nodes, at_of, rising_changed}
-use Rattle.cap_model.proofs.lists.Numbered.{one_completed}
 use Rattle.cap_nodes.proofs.Reserving.{have_changed}
 use Rattle.cap_nodes.proofs.nodes.Nodes.lift.Goals as goal
 

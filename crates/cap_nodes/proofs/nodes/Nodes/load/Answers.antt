@@ -1,9 +1,5 @@
 use Rattle.cap_nodes.proofs.Sizes.{present_fits}
-use Rattle.std.proofs.Common.{◌∙◌, ap, sym}
-use Rattle.std.specs.Prelude.{option_map, ◌==◌}
-use Rattle.cap_model.specs.Flat.{ClusterNode}
-use Rattle.cap_base.proofs.lists.Filters.{find_mapped_at}
-use Rattle.cap_nodes.specs.Loads.{Load}
+use Rattle.cap_nodes.proofs.Prelude.{◌∙◌, ap, sym, option_map, ◌==◌, ClusterNode, find_mapped_at, Load}
 use Rattle.cap_nodes.proofs.Holding.{load_in}
 use Rattle.cap_nodes.proofs.nodes.Nodes.load.Goals as goal
 

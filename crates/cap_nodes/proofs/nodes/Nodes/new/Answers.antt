@@ -1,8 +1,5 @@
 use Rattle.cap_nodes.proofs.Sizes.{present_fits, containers_fit, amounts_fit}
-use Rattle.std.proofs.Common.{[], sym, true, arith}
-use Rattle.cap_vector.specs.Vector.{amount_max}
-use Rattle.cap_model.specs.Flat.{ClusterNode}
-use Rattle.cap_nodes.specs.Loads.{AreTied}
+use Rattle.cap_nodes.proofs.Prelude.{[], sym, true, arith, amount_max, ClusterNode, AreTied}
 use Rattle.cap_nodes.proofs.Sums.{where-none, zeros_within}
 use Rattle.cap_nodes.proofs.nodes.Nodes.new.Goals as goal
 

@@ -1,10 +1,4 @@
-use Rattle.cap_model.specs.Flat.{NodeTable}
-use Rattle.std.proofs.lemmas.List.{length-map}
-use Rattle.std.proofs.lemmas.Option.{slice_get-map}
-use Rattle.std.proofs.Common.{◌∙◌, ap, length, arith, subst}
-use Rattle.std.specs.Prelude.{IfSome, option_map}
-use Rattle.cap_nodes.specs.Loads.{Load}
-use Rattle.cap_nodes.specs.Tables.{IsLoadIn}
+use Rattle.cap_nodes.proofs.Prelude.{NodeTable, length-map, slice_get-map, ◌∙◌, ap, length, arith, subst, IfSome, option_map, Load, IsLoadIn}
 use Rattle.cap_nodes.proofs.Sizes.{present_fits, load_fits}
 use Rattle.cap_nodes.proofs.Changes.{node_of_load}
 use Rattle.cap_nodes.proofs.Holding.{load_in}

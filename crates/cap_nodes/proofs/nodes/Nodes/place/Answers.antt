@@ -1,8 +1,5 @@
 use Rattle.cap_nodes.proofs.Sizes.{present_fits, containers_fit, amounts_fit}
-use Rattle.std.proofs.Common.{map, ◌≡◌, ◌+◌, ◌++◌, ◌∷◌, [], ap, List, refl, length}
-use Rattle.cap_vector.specs.Vector.{plus, less, Fits}
-use Rattle.cap_model.specs.Flat.{ClusterNode, Container, NodeTable}
-use Rattle.cap_nodes.specs.Loads.{Load, change_load, held_more, CanHold, reservation_of}
+use Rattle.cap_nodes.proofs.Prelude.{map, ◌≡◌, ◌+◌, ◌++◌, ◌∷◌, [], ap, List, refl, length, plus, less, Fits, ClusterNode, Container, NodeTable, Load, change_load, held_more, CanHold, reservation_of}
 use Rattle.cap_nodes.proofs.Ties.{has_room}
 use Rattle.cap_nodes.proofs.Presents.{of_found, if_found}
 use Rattle.cap_nodes.proofs.Changes.{load_of_node, is_at, tie_of, free_is, same_nodes, sound_table}

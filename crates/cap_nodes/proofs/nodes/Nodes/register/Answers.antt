@@ -1,13 +1,6 @@
-use Rattle.std.proofs.lemmas.List.{length-map}
+use Rattle.cap_nodes.proofs.Prelude.{length-map, ◌≡◌, ◌∙◌, ap, sym, map, refl, true, None, length, arith, plus, zeros, IsWithin, amount_max, amount-plus, ClusterNode, NodeTable, sum_of_totals, rising_more, Load, reservation_of}
 use Rattle.cap_nodes.proofs.Sizes.{present_fits, reservation_fits}
-use Rattle.std.proofs.Common.{◌≡◌, ◌∙◌, ap, sym, map, refl, true, None, length, arith}
-use Rattle.cap_vector.specs.Vector.{plus, zeros, IsWithin, amount_max}
-use Rattle.cap_vector.proofs.AmountLemmas.{amount-plus}
-use Rattle.cap_model.specs.Flat.{ClusterNode, NodeTable}
-use Rattle.cap_model.specs.RegisterNode.{sum_of_totals}
 use Rattle.cap_nodes.proofs.Sums.{where-push-own}
-use Rattle.cap_model.proofs.lists.Numbered.{rising_more}
-use Rattle.cap_nodes.specs.Loads.{Load, reservation_of}
 use Rattle.cap_nodes.proofs.Changes.{nodes_of, with_node, nodes_pushed}
 use Rattle.cap_nodes.proofs.Reserving.{have_pushed}
 use Rattle.cap_nodes.proofs.nodes.Nodes.register.Goals as goal

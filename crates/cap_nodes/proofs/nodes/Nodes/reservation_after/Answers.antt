@@ -1,7 +1,4 @@
-use Rattle.std.proofs.Common.{◌∙◌, sym, Some, None, ap}
-use Rattle.std.specs.Prelude.{find, nat_lt, ◌&&◌}
-use Rattle.cap_model.specs.Flat.{Container, is_for}
-use Rattle.cap_nodes.specs.Loads.{is_kept_for}
+use Rattle.cap_nodes.proofs.Prelude.{◌∙◌, sym, Some, None, ap, find, nat_lt, ◌&&◌, Container, is_for, is_kept_for}
 use Rattle.cap_nodes.proofs.Reserved.{next_kept, none_next}
 use Rattle.cap_nodes.proofs.nodes.Nodes.reservation_after.Goals as goal
 

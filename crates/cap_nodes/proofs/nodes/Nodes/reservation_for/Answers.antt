@@ -1,7 +1,5 @@
 use Rattle.cap_nodes.proofs.Sizes.{container_fits, containers_fit}
-use Rattle.std.proofs.Common.{◌∙◌, ap, sym}
-use Rattle.std.specs.Prelude.{option_map}
-use Rattle.cap_nodes.specs.Loads.{reservation_of}
+use Rattle.cap_nodes.proofs.Prelude.{◌∙◌, ap, sym, option_map, reservation_of}
 use Rattle.cap_nodes.proofs.Walked.{kept_at}
 use Rattle.cap_nodes.proofs.nodes.Nodes.reservation_for.Goals as goal
 

@@ -1,7 +1,5 @@
 use Rattle.cap_nodes.proofs.Sizes.{container_fits, containers_fit}
-use Rattle.std.proofs.Common.{◌∙◌, sym, Some, None}
-use Rattle.std.specs.Prelude.{◌==◌}
-use Rattle.cap_model.specs.Flat.{Reservation}
+use Rattle.cap_nodes.proofs.Prelude.{◌∙◌, sym, Some, None, ◌==◌, Reservation}
 use Rattle.cap_nodes.proofs.Walked.{first_kept}
 use Rattle.cap_nodes.proofs.nodes.Nodes.reservation_of_app.Goals as goal
 

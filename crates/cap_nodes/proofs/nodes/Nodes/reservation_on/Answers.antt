@@ -1,6 +1,5 @@
 use Rattle.cap_nodes.proofs.Sizes.{load_fits, present_fits}
-use Rattle.std.proofs.Common.{◌∙◌, map, sym}
-use Rattle.cap_nodes.specs.Loads.{reservation_of}
+use Rattle.cap_nodes.proofs.Prelude.{◌∙◌, map, sym, reservation_of}
 use Rattle.cap_nodes.proofs.Reserving.{its_own}
 use Rattle.cap_nodes.proofs.nodes.Nodes.reservation_on.Goals as goal
 

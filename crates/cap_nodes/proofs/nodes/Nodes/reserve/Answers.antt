@@ -1,7 +1,4 @@
-use Rattle.std.proofs.Common.{◌∷◌, ◌++◌, ◌∙◌, [], List, ap, arith, map, refl}
-use Rattle.std.proofs.lemmas.List.{map_push}
-use Rattle.cap_model.specs.Flat.{ClusterNode, Container, NodeTable, Reservation}
-use Rattle.cap_nodes.specs.Loads.{change_load, reservation_of, reserved_load}
+use Rattle.cap_nodes.proofs.Prelude.{◌∷◌, ◌++◌, ◌∙◌, [], List, ap, arith, map, refl, map_push, ClusterNode, Container, NodeTable, Reservation, change_load, reservation_of, reserved_load}
 use Rattle.cap_nodes.proofs.Sizes.{containers_fit, present_fits, reservation_fits}
 use Rattle.cap_nodes.proofs.Changes.{same_nodes, sound_table}
 use Rattle.cap_nodes.proofs.Holding.{holds_reserved}

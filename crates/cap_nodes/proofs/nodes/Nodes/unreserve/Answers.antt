@@ -1,8 +1,5 @@
 use Rattle.cap_nodes.proofs.Sizes.{containers_fit, container_fits, present_fits}
-use Rattle.std.proofs.Common.{ap, sym, ◌∙◌, map, not, refl, List}
-use Rattle.std.specs.Prelude.{filter, ◌==◌}
-use Rattle.cap_model.specs.Flat.{ClusterNode, Container, NodeTable, Reservation}
-use Rattle.cap_nodes.specs.Loads.{reservation_of, unreserved_load}
+use Rattle.cap_nodes.proofs.Prelude.{ap, sym, ◌∙◌, map, not, refl, List, filter, ◌==◌, ClusterNode, Container, NodeTable, Reservation, reservation_of, unreserved_load}
 use Rattle.cap_nodes.proofs.Changes.{same_nodes}
 use Rattle.cap_nodes.proofs.Reserved.{one_dropped, none_dropped}
 use Rattle.cap_nodes.proofs.Holding.{holds_dropped}

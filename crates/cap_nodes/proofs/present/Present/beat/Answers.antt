@@ -1,7 +1,4 @@
-use Rattle.std.proofs.Common.{◌∙◌, ap, sym, List, refl}
-use Rattle.std.specs.Prelude.{option_and_then}
-use Rattle.std.specs.Map.{values_of}
-use Rattle.cap_nodes.specs.Loads.{Load, LoadTable, load_at, beaten_load}
+use Rattle.cap_nodes.proofs.Prelude.{◌∙◌, ap, sym, List, refl, option_and_then, values_of, Load, LoadTable, load_at, beaten_load}
 use Rattle.cap_nodes.proofs.Presents.{changed, no_load_at, there}
 use Rattle.cap_nodes.proofs.Changes.{load_changed}
 use Rattle.cap_nodes.proofs.present.Present.beat.Goals as goal

@@ -1,6 +1,4 @@
-use Rattle.std.proofs.Common.{◌≡◌, ap, List, refl, length, arith}
-use Rattle.cap_vector.specs.Vector.{plus}
-use Rattle.cap_nodes.specs.Loads.{Load, LoadTable, CanHold, held_more}
+use Rattle.cap_nodes.proofs.Prelude.{◌≡◌, ap, List, refl, length, arith, plus, Load, LoadTable, CanHold, held_more}
 use Rattle.cap_nodes.proofs.Presents.{changed, no_load_at, there, of_found, if_found}
 use Rattle.cap_nodes.proofs.present.Present.hold.Goals as goal
 

@@ -1,7 +1,4 @@
-use Rattle.std.proofs.Common.{◌∙◌, ap}
-use Rattle.std.specs.Prelude.{is_some}
-use Rattle.std.specs.List.{list_any}
-use Rattle.std.specs.Map.{values_of}
+use Rattle.cap_nodes.proofs.Prelude.{◌∙◌, ap, is_some, list_any, values_of}
 use Rattle.cap_nodes.proofs.Presents.{any_counted, no_host, with_host}
 use Rattle.cap_nodes.proofs.present.Present.is_host_taken.Goals as goal
 

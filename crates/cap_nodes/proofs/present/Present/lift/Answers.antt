@@ -1,5 +1,4 @@
-use Rattle.std.proofs.Common.{ap, List, refl, arith}
-use Rattle.cap_nodes.specs.Loads.{Load, LoadTable, HasOne, held_less}
+use Rattle.cap_nodes.proofs.Prelude.{ap, List, refl, arith, Load, LoadTable, HasOne, held_less}
 use Rattle.cap_nodes.proofs.Presents.{changed, no_load_at, there, of_found}
 use Rattle.cap_nodes.proofs.present.Present.lift.Goals as goal
 

@@ -1,11 +1,5 @@
-use Rattle.std.proofs.Common.{◌≡◌, ℕ, ◌∙◌, ap, List, refl, ◌<◌, ◌+◌, length}
-use Rattle.std.specs.Prelude.{count_by, nat_eq}
-use Rattle.std.specs.Map.{values_of}
+use Rattle.cap_nodes.proofs.Prelude.{◌≡◌, ℕ, ◌∙◌, ap, List, refl, ◌<◌, ◌+◌, length, count_by, nat_eq, values_of, insert_entry-new, nodes_max, ClusterNode, Load, LoadTable}
 use Rattle.indexmap.specs.IndexMap.{insert_entry}
-use Rattle.indexmap.proofs.CallerLemmas.{insert_entry-new}
-use Rattle.cap_base.specs.Limits.{nodes_max}
-use Rattle.cap_model.specs.Flat.{ClusterNode}
-use Rattle.cap_nodes.specs.Loads.{Load, LoadTable}
 use Rattle.cap_nodes.proofs.Presents.{absent, pushed, with_host}
 use Rattle.cap_nodes.proofs.present.Present.push.Goals as goal
 

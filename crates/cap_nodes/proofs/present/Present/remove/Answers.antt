@@ -1,8 +1,4 @@
-use Rattle.std.proofs.Common.{◌≡◌, ◌∙◌, ◌-◌, ap, sym, List, arith}
-use Rattle.std.specs.Prelude.{count_by, ◌==◌}
-use Rattle.std.specs.Map.{values_of}
-use Rattle.cap_model.specs.Flat.{ClusterNode}
-use Rattle.cap_nodes.specs.Loads.{Load, LoadTable}
+use Rattle.cap_nodes.proofs.Prelude.{◌≡◌, ◌∙◌, ◌-◌, ap, sym, List, arith, count_by, ◌==◌, values_of, ClusterNode, Load, LoadTable}
 use Rattle.cap_nodes.proofs.Numbered.{none_gone}
 use Rattle.cap_nodes.proofs.Presents.{found, has_host, none_counted, removed, there, with_host}
 use Rattle.cap_nodes.proofs.present.Present.remove.Goals as goal

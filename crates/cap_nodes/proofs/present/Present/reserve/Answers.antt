@@ -1,7 +1,4 @@
-use Rattle.std.proofs.Common.{◌∙◌, ap, sym, List, refl}
-use Rattle.std.specs.Prelude.{nat_eq}
-use Rattle.std.specs.Map.{lookup, set_value, values_of}
-use Rattle.cap_nodes.specs.Loads.{Load, LoadTable, reserved_load}
+use Rattle.cap_nodes.proofs.Prelude.{◌∙◌, ap, sym, List, refl, nat_eq, lookup, set_value, values_of, Load, LoadTable, reserved_load}
 use Rattle.cap_nodes.proofs.Presents.{changed, found}
 use Rattle.cap_nodes.proofs.Reserving.{none_changed}
 use Rattle.cap_nodes.proofs.present.Present.reserve.Goals as goal

@@ -1,6 +1,4 @@
-use Rattle.std.proofs.Common.{◌∙◌, ap, sym, List, refl}
-use Rattle.std.specs.Map.{values_of}
-use Rattle.cap_nodes.specs.Loads.{Load, LoadTable, unreserved_load}
+use Rattle.cap_nodes.proofs.Prelude.{◌∙◌, ap, sym, List, refl, values_of, Load, LoadTable, unreserved_load}
 use Rattle.cap_nodes.proofs.Presents.{changed, found}
 use Rattle.cap_nodes.proofs.Reserving.{none_changed}
 use Rattle.cap_nodes.proofs.present.Present.unreserve.Goals as goal

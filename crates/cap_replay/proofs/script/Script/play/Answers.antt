@@ -1,6 +1,4 @@
-use Rattle.std.proofs.Common.{refl, subst}
-use Rattle.cap_replay.specs.Script.{IsCommand}
-use Rattle.cap_replay.specs.declared.command.Command.TheVariants.{Open, Bytes, End, Copy, Propose, Commit}
+use Rattle.cap_replay.proofs.Prelude.{refl, subst, IsCommand, Open, Bytes, End, Copy, Propose, Commit}
 use Rattle.cap_world.specs.declared.step.Step.TheVariants as steps
 use Rattle.cap_replay.proofs.Commands.{no_opening, no_later, no_later_conf}
 use Rattle.cap_replay.proofs.Results.{on_ok, on_ok_twice}

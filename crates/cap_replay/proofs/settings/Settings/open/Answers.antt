@@ -1,8 +1,4 @@
-use Rattle.std.proofs.Common.{◌≡◌, List, ℕ, Option, None, Some, Ok, refl, ap, sym, subst, ◌∙◌}
-use Rattle.cap_base.specs.declared.properties.fault.ConfigFault.{ConfigFault}
-use Rattle.cap_base.specs.properties.First.{AnswersFault, first_fault, settings_in}
-use Rattle.cap_world.specs.World.{Known, start}
-use Rattle.cap_replay.specs.Settings.{settings_text}
+use Rattle.cap_replay.proofs.Prelude.{◌≡◌, List, ℕ, Option, None, Some, Ok, refl, ap, sym, subst, ◌∙◌, ConfigFault, AnswersFault, first_fault, settings_in, Known, start, settings_text}
 use Rattle.cap_replay.proofs.settings.Settings.open.Goals as goal
 
 -- where there are settings there is no fault

@@ -1,8 +1,4 @@
-use Rattle.std.proofs.Common.{◌≡◌, refl, sym, subst, ◌∙◌}
-use Rattle.std.specs.Prelude.{Some}
-use Rattle.cap_world.specs.World.{Known}
-use Rattle.cap_replay.specs.Settings.{settings_text}
-use Rattle.cap_replay.specs.World.{IsOpened}
+use Rattle.cap_replay.proofs.Prelude.{◌≡◌, refl, sym, subst, ◌∙◌, Some, Known, settings_text, IsOpened}
 use Rattle.cap_replay.proofs.Making.{outcome_kept}
 use Rattle.cap_replay.proofs.simulation.Simulation.step.Goals as goal
 

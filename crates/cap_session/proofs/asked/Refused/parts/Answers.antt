@@ -1,5 +1,4 @@
-use Rattle.std.proofs.Common.{◌∙◌, sym, ap}
-use Rattle.cap_session.specs.Asked.{first_payload}
+use Rattle.cap_session.proofs.Prelude.{◌∙◌, sym, ap, first_payload}
 use Rattle.cap_session.proofs.asked.Refused.parts.Goals as goal
 
 pub returns : goal.returns

@@ -1,13 +1,4 @@
-use Rattle.std.proofs.Common.{◌≡◌, ◌++◌, ◌∷◌, [], ◌∙◌, ℕ, List, Some, None, ap, ap₂, sym, subst, refl, length, arith}
-use Rattle.cap_base.specs.Limits.{resources}
-use Rattle.cap_model.specs.News.{Reply}
-use Rattle.cap_frames.specs.Stream.{frame_of}
-use Rattle.cap_session.specs.Answers.{Call}
-use Rattle.cap_session.specs.Session.{OpenRequest, SpellsAnswer, answer_bytes, with_answer}
-use Rattle.cap_session.specs.Asked.{payloads_in}
-use Rattle.cap_session.specs.Ahead.{HasGiven}
-use Rattle.cap_session.specs.Kept.{answered_in, calls_in, calls_of}
-use Rattle.cap_session.specs.Batch.{session_inside}
+use Rattle.cap_session.proofs.Prelude.{◌≡◌, ◌++◌, ◌∷◌, [], ◌∙◌, ℕ, List, Some, None, ap, ap₂, sym, subst, refl, length, arith, resources, Reply, frame_of, Call, OpenRequest, SpellsAnswer, answer_bytes, with_answer, payloads_in, HasGiven, answered_in, calls_in, calls_of, session_inside}
 use Rattle.cap_session.specs.declared.batch.Batch.TheInside.{Inside}
 use Rattle.cap_session.proofs.Answering.{answered_answer, is_answer}
 use Rattle.cap_session.proofs.Logs.{answered_more, calls_more}

@@ -1,7 +1,4 @@
-use Rattle.std.proofs.Common.{◌≡◌, ◌++◌, ◌∷◌, [], ◌∙◌, ℕ, List, Option, Some, ap, sym, subst, refl, arith, length}
-use Rattle.cap_session.specs.Session.{OpenRequest, open_payload}
-use Rattle.cap_session.specs.Asked.{PayloadLog}
-use Rattle.cap_session.specs.Kept.{answered_in, open_of, SpellsRequest, IsHeadOf, HasRoom}
+use Rattle.cap_session.proofs.Prelude.{◌≡◌, ◌++◌, ◌∷◌, [], ◌∙◌, ℕ, List, Option, Some, ap, sym, subst, refl, arith, length, OpenRequest, open_payload, PayloadLog, answered_in, open_of, SpellsRequest, IsHeadOf, HasRoom}
 use Rattle.cap_session.proofs.ReadingAhead.{takes_asked}
 use Rattle.cap_session.proofs.batch.Batch.suspend.Goals as goal
 

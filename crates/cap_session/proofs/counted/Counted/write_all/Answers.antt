@@ -1,7 +1,4 @@
-use Rattle.std.proofs.Common.{◌≡◌, ◌++◌, ◌-◌, length, take, drop, ap, refl, ◌∙◌, arith, length-drop, subst, List, ℕ}
-use Rattle.std.proofs.lemmas.List.{take_all}
-use Rattle.std.specs.Io.KnownBytes.{Appends}
-use Rattle.cap_session.specs.Counted.{StreamState, state_of, inner_of}
+use Rattle.cap_session.proofs.Prelude.{◌≡◌, ◌++◌, ◌-◌, length, take, drop, ap, refl, ◌∙◌, arith, length-drop, subst, List, ℕ, take_all, Appends, StreamState, state_of, inner_of}
 use Rattle.cap_session.proofs.Bytes.{took, took_after, appends_then}
 use Rattle.cap_session.proofs.counted.Counted.write_all.Goals as goal
 

@@ -1,6 +1,4 @@
-use Rattle.std.proofs.Common.{◌≡◌, ◌-◌, ◌++◌, ◌≤◌, length, take}
-use Rattle.std.specs.Io.KnownBytes.{Appends}
-use Rattle.cap_session.specs.Counted.{state_of, inner_of}
+use Rattle.cap_session.proofs.Prelude.{◌≡◌, ◌-◌, ◌++◌, ◌≤◌, length, take, Appends, state_of, inner_of}
 use Rattle.cap_session.proofs.counted.Counted.write_all.Given as goal
 
 -- the first bytes, so many as were counted, were written

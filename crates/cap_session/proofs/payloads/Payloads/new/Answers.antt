@@ -1,8 +1,4 @@
-use Rattle.std.proofs.Common.{◌++◌, ◌∙◌, ◌≤◌, List, [], ap, sym, subst, length, arith}
-use Rattle.cap_frames.specs.History.{History, IsReading}
-use Rattle.cap_session.specs.Session.{OpenRequest}
-use Rattle.cap_session.specs.Ahead.{asked_payloads, asked_requests}
-use Rattle.cap_session.specs.declared.payloads.TheConstants.{AHEAD_MAX}
+use Rattle.cap_session.proofs.Prelude.{◌++◌, ◌∙◌, ◌≤◌, List, [], ap, sym, subst, length, arith, History, IsReading, OpenRequest, asked_payloads, asked_requests, AHEAD_MAX}
 use Rattle.cap_session.proofs.ReadingAhead.{nothing_read}
 use Rattle.cap_session.proofs.payloads.Payloads.new.Goals as goal
 

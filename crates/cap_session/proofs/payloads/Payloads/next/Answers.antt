@@ -1,10 +1,4 @@
-use Rattle.std.proofs.Common.{◌≡◌, ◌++◌, ◌∷◌, [], ◌∙◌, ℕ, List, Ok, Err, drop, ap, sym, refl, subst}
-use Rattle.std.proofs.lemmas.List.{nil_from_length}
-use Rattle.cap_base.specs.Limits.{resources}
-use Rattle.cap_model.specs.declared.request.Request.{Request}
-use Rattle.cap_frames.specs.declared.fault.FrameFault.{FrameFault}
-use Rattle.cap_frames.specs.History.{History, IsReading, IsAtRest, IsAtFault, after_gift}
-use Rattle.cap_session.specs.Ahead.{asked_requests}
+use Rattle.cap_session.proofs.Prelude.{◌≡◌, ◌++◌, ◌∷◌, [], ◌∙◌, ℕ, List, Ok, Err, drop, ap, sym, refl, subst, nil_from_length, resources, Request, FrameFault, History, IsReading, IsAtRest, IsAtFault, after_gift, asked_requests}
 use Rattle.cap_session.proofs.ReadingAhead.{reads_on, gave, takes_asked, opens_asked, takes_refused, takes_next, same_given, finds_rest, finds_fault, opens}
 use Rattle.cap_session.proofs.payloads.Payloads.next.Goals as goal
 

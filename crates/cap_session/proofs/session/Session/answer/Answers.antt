@@ -1,8 +1,4 @@
-use Rattle.std.proofs.Common.{refl, ◌∙◌, ap, sym, subst, ◌≡◌, ◌++◌, ◌∷◌, [], Option, None, Some, List, ℕ}
-use Rattle.cap_frames.specs.Stream.{frame_of}
-use Rattle.cap_session.specs.Session.{SessionState, OpenRequest, after_answer, SpellsAnswer}
-use Rattle.cap_session.specs.Kept.{IsKept, SpellsRequest, state_inside}
-use Rattle.cap_session.specs.declared.session.Session.TheInside.{Inside}
+use Rattle.cap_session.proofs.Prelude.{refl, ◌∙◌, ap, sym, subst, ◌≡◌, ◌++◌, ◌∷◌, [], Option, None, Some, List, ℕ, frame_of, SessionState, OpenRequest, after_answer, SpellsAnswer, IsKept, SpellsRequest, state_inside, Inside}
 use Rattle.cap_session.proofs.Answering.{is_answer}
 use Rattle.cap_session.proofs.SessionSteps.{opens, answers_it}
 use Rattle.cap_session.proofs.session.Session.answer.Goals as goal

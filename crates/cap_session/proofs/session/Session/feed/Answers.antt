@@ -1,7 +1,4 @@
-use Rattle.std.proofs.Common.{subst, ap, refl, inr, Some}
-use Rattle.cap_frames.specs.History.{History}
-use Rattle.cap_session.specs.Session.{SessionState, FeedGives, IsSession}
-use Rattle.cap_session.specs.Kept.{state_inside}
+use Rattle.cap_session.proofs.Prelude.{subst, ap, refl, inr, Some, History, SessionState, FeedGives, IsSession, state_inside}
 use Rattle.cap_session.specs.declared.session.SessionCause.TheVariants as causes
 use Rattle.cap_session.specs.declared.session.Fed.TheVariants as feds
 use Rattle.cap_session.proofs.SessionSteps.{promises, feeds, feeds_none}

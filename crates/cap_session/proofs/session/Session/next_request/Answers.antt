@@ -1,7 +1,4 @@
-use Rattle.std.proofs.Common.{refl, ◌∙◌, ap, subst, inr, Some}
-use Rattle.cap_session.specs.Session.{SessionState, NextGives, IsSession}
-use Rattle.cap_session.specs.Kept.{IsKept, state_inside}
-use Rattle.cap_session.specs.declared.session.Session.TheInside.{Inside}
+use Rattle.cap_session.proofs.Prelude.{refl, ◌∙◌, ap, subst, inr, Some, SessionState, NextGives, IsSession, IsKept, state_inside, Inside}
 use Rattle.cap_session.specs.declared.session.SessionCause.TheVariants as causes
 use Rattle.cap_session.specs.declared.session.Next.TheVariants as nexts
 use Rattle.cap_session.proofs.SessionSteps.{promises, asks, rests, starves, faults}

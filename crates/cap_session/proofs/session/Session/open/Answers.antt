@@ -1,7 +1,4 @@
-use Rattle.std.proofs.Common.{refl, sym, ap, ◌∙◌, subst, [], ◌++◌}
-use Rattle.cap_frames.specs.History.{History, IsReading}
-use Rattle.cap_session.specs.Answers.{nothing}
-use Rattle.cap_session.specs.Kept.{answered_in, AnswerLog}
+use Rattle.cap_session.proofs.Prelude.{refl, sym, ap, ◌∙◌, subst, [], ◌++◌, History, IsReading, nothing, answered_in, AnswerLog}
 use Rattle.cap_session.proofs.ReadingAhead.{nothing_read}
 use Rattle.cap_session.proofs.session.Session.open.Goals as goal
 

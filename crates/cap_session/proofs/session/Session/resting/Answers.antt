@@ -1,5 +1,4 @@
-use Rattle.std.proofs.Common.{[], refl, sym, ◌∙◌, append-nil}
-use Rattle.cap_session.specs.Kept.{answered_in}
+use Rattle.cap_session.proofs.Prelude.{[], refl, sym, ◌∙◌, append-nil, answered_in}
 use Rattle.cap_session.proofs.session.Session.resting.Goals as goal
 
 pub invariant_of-result : goal.invariant_of-result

@@ -1,5 +1,4 @@
-use Rattle.std.proofs.Common.{subst}
-use Rattle.cap_session.specs.Session.{IsSession}
+use Rattle.cap_session.proofs.Prelude.{subst, IsSession}
 use Rattle.cap_session.proofs.SessionSteps.{promises}
 use Rattle.cap_session.proofs.session.Session.unsent.Goals as goal
 

@@ -1,5 +1,4 @@
-use Rattle.std.proofs.Common.{◌++◌, ◌∙◌, ℕ, Some, ap, take, drop}
-use Rattle.cap_session.specs.Kept.{sent_in}
+use Rattle.cap_session.proofs.Prelude.{◌++◌, ◌∙◌, ℕ, Some, ap, take, drop, sent_in}
 use Rattle.cap_session.specs.declared.session.SessionCause.TheVariants as causes
 use Rattle.cap_session.proofs.Logs.{sent_more}
 use Rattle.cap_session.proofs.SessionSteps.{sends, as_ended, still_ended, ends_by_fault}

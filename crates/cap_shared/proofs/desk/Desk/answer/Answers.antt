@@ -1,6 +1,4 @@
-use Rattle.std.proofs.Common.{◌≡◌, [], ◌∷◌, ◌++◌, length, ap, ◌∙◌, arith}
-use Rattle.cap_shared.specs.Parts.{Content}
-use Rattle.cap_model.specs.Reporting.{full_reply}
+use Rattle.cap_shared.proofs.Prelude.{◌≡◌, [], ◌∷◌, ◌++◌, length, ap, ◌∙◌, arith, Content, full_reply}
 use Rattle.cap_shared.specs.declared.entry.Receipt.TheVariants as receipt
 use Rattle.cap_shared.proofs.Entering.{call_step, call_by}
 use Rattle.cap_shared.proofs.Pasts.{entered_seat, entered_desk}

@@ -1,10 +1,5 @@
-use Rattle.std.proofs.Common.{◌≡◌, length, refl, ap, ◌∙◌, arith}
-use Rattle.atomic_table.specs.Table.{Me}
+use Rattle.cap_shared.proofs.Prelude.{◌≡◌, length, refl, ap, ◌∙◌, arith, Me, Mark, View, Content, sitting_of}
 use Rattle.cap_shared.specs.declared.history.NotedAnswer.TheVariants as answer
-use Rattle.cap_shared.specs.declared.history.Mark.{Mark}
-use Rattle.cap_shared.specs.declared.history.View.{View}
-use Rattle.cap_shared.specs.Parts.{Content}
-use Rattle.cap_shared.specs.WordRule.{sitting_of}
 use Rattle.cap_shared.proofs.Pasts.{noted_seat, met_less}
 use Rattle.cap_shared.proofs.desk.Desk.call.Goals as goal
 

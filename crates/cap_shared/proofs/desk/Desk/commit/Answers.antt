@@ -1,8 +1,5 @@
-use Rattle.std.proofs.Common.{◌≡◌, None, refl, sym, subst, arith}
-use Rattle.cap_model.specs.Sight.{sight_of}
-use Rattle.cap_model.specs.Admission.{reason_of}
+use Rattle.cap_shared.proofs.Prelude.{◌≡◌, None, refl, sym, subst, arith, sight_of, reason_of, Content}
 use Rattle.cap_shared.specs.declared.history.NotedAnswer.TheVariants as answer
-use Rattle.cap_shared.specs.Parts.{Content}
 use Rattle.cap_shared.proofs.Pasts.{noted_seat}
 use Rattle.cap_shared.proofs.desk.Desk.commit.Goals as goal
 

@@ -1,14 +1,7 @@
-use Rattle.std.proofs.Common.{◌≡◌, None, [], ◌∷◌, ◌++◌, length, ap, sym, ◌∙◌, subst, arith}
-use Rattle.cap_base.specs.Limits.{resources}
-use Rattle.cap_model.specs.Sight.{sight_of}
-use Rattle.cap_model.specs.Admission.{reason_of}
-use Rattle.cap_model.specs.Events.{Step}
+use Rattle.cap_shared.proofs.Prelude.{◌≡◌, None, [], ◌∷◌, ◌++◌, length, ap, sym, ◌∙◌, subst, arith, resources, sight_of, reason_of, Step, Event, Entered, Content}
 use Rattle.cap_model.specs.Verdicts.{IsOf}
-use Rattle.cap_model.specs.declared.event.Event.{Event}
 use Rattle.cap_shared.specs.declared.entry.Receipt.TheVariants as receipt
 use Rattle.cap_shared.specs.declared.history.NotedAnswer.TheVariants as answer
-use Rattle.cap_shared.specs.declared.history.Moment.TheVariants.{Entered}
-use Rattle.cap_shared.specs.Parts.{Content}
 use Rattle.cap_shared.proofs.Entering.{event_by, event_receipt, one_more}
 use Rattle.cap_shared.proofs.Pasts.{noted_seat, entered_seat, entered_desk}
 use Rattle.cap_shared.proofs.desk.Desk.make.Goals as goal

@@ -1,14 +1,4 @@
-use Rattle.std.proofs.Common.{◌≡◌, ◌≤◌, [], ◌∷◌, ◌++◌, length, map, true, refl, ap, sym, ◌∙◌, subst, arith, append_assoc, length-append, List, suc, ◌+◌}
-use Rattle.std.proofs.lemmas.List.{length-map, map-append, append-nil}
-use Rattle.atomic_table.specs.Table.{Me}
-use Rattle.cap_shared.specs.declared.history.View.{View}
-use Rattle.cap_shared.specs.declared.history.Mark.{Mark}
-use Rattle.cap_shared.specs.declared.history.Sitting.{Sitting}
-use Rattle.std.specs.Prelude.{ℕ}
-use Rattle.cap_shared.specs.declared.entry.Receipt.{Receipt}
-use Rattle.cap_shared.specs.WordRule.{view_of, sitter, sitting_of, with_guest, AllFit, times}
-use Rattle.cap_shared.specs.Parts.{report_of}
-use Rattle.cap_shared.specs.Journal.{Rises, NotesHold, AllHonest}
+use Rattle.cap_shared.proofs.Prelude.{◌≡◌, ◌≤◌, [], ◌∷◌, ◌++◌, length, map, true, refl, ap, sym, ◌∙◌, subst, arith, append_assoc, length-append, List, suc, ◌+◌, length-map, map-append, append-nil, Me, View, Mark, Sitting, ℕ, Receipt, view_of, sitter, sitting_of, with_guest, AllFit, times, report_of, Rises, NotesHold, AllHonest}
 use Rattle.cap_shared.proofs.Pasts.{honest-push}
 use Rattle.cap_shared.proofs.Moves.{joins, compares}
 use Rattle.cap_shared.proofs.shared.Shared.close.Goals as goal

@@ -1,7 +1,4 @@
-use Rattle.std.proofs.Common.{◌≡◌, ◌≤◌, [], ◌++◌, map, true, vec_capacity}
-use Rattle.cap_shared.specs.WordRule.{view_of}
-use Rattle.cap_shared.specs.Journal.{AllHonest}
-use Rattle.cap_shared.specs.Parts.{report_of}
+use Rattle.cap_shared.proofs.Prelude.{◌≡◌, ◌≤◌, [], ◌++◌, map, true, vec_capacity, view_of, AllHonest, report_of}
 use Rattle.cap_shared.proofs.shared.Shared.close.Given as goal
 
 -- the pass sits for the seats so far, and their reports are kept

@@ -1,12 +1,6 @@
-use Rattle.std.proofs.Common.{rules, arith, ◌≡◌, ◌≤◌, ◌-◌, length, refl, ◌∙◌, ap, set, sym, subst, []}
-use Rattle.std.specs.Vec.{vec_len}
-use Rattle.std.proofs.lemmas.Result.{on_ok_weaker, on_err_weaker}
-use Rattle.std.proofs.lemmas.List.{length-set, set-get_or, nil_from_length}
-use Rattle.std.proofs.lemmas.List.Elements.{All-set}
-use Rattle.cap_tree.specs.Spot.{first_of, spots, IsAdded}
+use Rattle.cap_tree.proofs.Prelude.{rules, arith, ◌≡◌, ◌≤◌, ◌-◌, length, refl, ◌∙◌, ap, set, sym, subst, [], vec_len, on_ok_weaker, on_err_weaker, length-set, set-get_or, nil_from_length, All-set, first_of, spots, IsAdded, AreSpots, root_count}
 use Rattle.cap_tree.proofs.Spots.{sum-set_child}
 use Rattle.cap_tree.proofs.Adding.{added_below, added_at_leaf, none_below}
-use Rattle.cap_tree.specs.Branch.{AreSpots, root_count}
 use Rattle.cap_tree.proofs.Trees.{tree_of, trees_filled}
 use Rattle.cap_tree.proofs.branch.Branch.+add.Goals as goal
 

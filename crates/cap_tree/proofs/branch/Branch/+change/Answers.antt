@@ -1,11 +1,5 @@
 use Rattle.cap_tree.proofs.branch.Branch.+change.Goals.{In-Err}
-use Rattle.cap_tree.specs.Branch.{AreSpots, IsBranch}
-use Rattle.std.proofs.Common.{ℕ, rules, ap, arith, get_or, drop, ◌-◌, take, length, subst, sym, ◌∙◌, ◌≡◌, set, ◌+◌, ◌<◌, List, Result, Ok, Err}
-use Rattle.std.proofs.lemmas.Result.{on_ok_weaker}
-use Rattle.std.proofs.lemmas.List.{length-set, set-get_or}
-use Rattle.std.proofs.lemmas.List.Elements.{All-set}
-use Rattle.std.specs.Prelude.{OnOk, OnErr}
-use Rattle.cap_tree.specs.Spot.{HoldsOfItem, Spot, first_of, item_at, spots}
+use Rattle.cap_tree.proofs.Prelude.{AreSpots, IsBranch, ℕ, rules, ap, arith, get_or, drop, ◌-◌, take, length, subst, sym, ◌∙◌, ◌≡◌, set, ◌+◌, ◌<◌, List, Result, Ok, Err, on_ok_weaker, length-set, set-get_or, All-set, OnOk, OnErr, HoldsOfItem, Spot, first_of, item_at, spots}
 use Rattle.cap_tree.proofs.Spots.{steps-empty, as_in_child, changed_at_root, in_child, changed_in_child, child-le-sum, sum-set_child}
 use Rattle.cap_tree.proofs.Rooms.{room_in_child}
 use Rattle.cap_tree.proofs.Trees.{tree_changed}

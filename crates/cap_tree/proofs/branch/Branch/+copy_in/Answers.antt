@@ -1,5 +1,4 @@
-use Rattle.std.proofs.Common.{rules, arith, ◌≡◌, ◌<◌, length, ◌∙◌, ap, subst, get_or}
-use Rattle.std.specs.Vec.{vec_len}
+use Rattle.cap_tree.proofs.Prelude.{rules, arith, ◌≡◌, ◌<◌, length, ◌∙◌, ap, subst, get_or, vec_len}
 use Rattle.cap_tree.proofs.Finds.{child-lt}
 use Rattle.cap_tree.proofs.Copies.{made-spots, branch_made, copied_more, copied_all, copied_length}
 use Rattle.cap_tree.proofs.branch.Branch.+copy_in.Goals as goal

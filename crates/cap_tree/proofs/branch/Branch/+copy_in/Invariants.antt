@@ -1,6 +1,4 @@
-use Rattle.std.proofs.Common.{◌≡◌, ◌≤◌, map, take, length}
-use Rattle.std.specs.Vec.{vec_capacity}
-use Rattle.cap_tree.specs.Spot.{made_of}
+use Rattle.cap_tree.proofs.Prelude.{◌≡◌, ◌≤◌, map, take, length, vec_capacity, made_of}
 use Rattle.cap_tree.proofs.branch.Branch.+copy_in.Given as goal
 
 abbrev pub decreases-copy_in : goal.decreases-copy_in

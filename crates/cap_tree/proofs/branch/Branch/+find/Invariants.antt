@@ -1,5 +1,4 @@
-use Rattle.std.proofs.Common.{length}
-use Rattle.cap_tree.specs.Finding.{IsStart}
+use Rattle.cap_tree.proofs.Prelude.{length, IsStart}
 use Rattle.cap_tree.proofs.Looking.{NoneBefore}
 use Rattle.cap_tree.proofs.branch.Branch.+find.Given as goal
 

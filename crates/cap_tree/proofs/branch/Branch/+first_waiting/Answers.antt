@@ -1,5 +1,4 @@
-use Rattle.std.proofs.Common.{rules, arith, ◌≡◌, None, subst, sym}
-use Rattle.cap_tree.specs.Walk.{IsFirstMark}
+use Rattle.cap_tree.proofs.Prelude.{rules, arith, ◌≡◌, None, subst, sym, IsFirstMark}
 use Rattle.cap_tree.proofs.Finds.{child-lt}
 use Rattle.cap_tree.proofs.Walks.{below_first, first_in, kid_waits, next_marked, next_once, next_within, none_below, own_first, some_below}
 use Rattle.cap_tree.proofs.branch.Branch.+first_waiting.Goals as goal

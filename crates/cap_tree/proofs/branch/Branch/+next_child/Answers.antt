@@ -1,6 +1,4 @@
-use Rattle.std.proofs.Common.{rules, arith, ◌≡◌, ◌-◌, ◌∙◌, ap, sym, subst, length, take, drop, get_or, IfSome, MatchOption}
-use Rattle.cap_tree.specs.Spot.{HoldsOfItem}
-use Rattle.cap_tree.specs.Service.{HasNoneAfter, IsFirstAfter, children_at}
+use Rattle.cap_tree.proofs.Prelude.{rules, arith, ◌≡◌, ◌-◌, ◌∙◌, ap, sym, subst, length, take, drop, get_or, IfSome, MatchOption, HoldsOfItem, HasNoneAfter, IsFirstAfter, children_at}
 use Rattle.cap_tree.proofs.Spots.{in_child, steps-is}
 use Rattle.cap_tree.proofs.Service.{children_in_child}
 use Rattle.cap_tree.proofs.branch.Branch.+next_child.Goals as goal

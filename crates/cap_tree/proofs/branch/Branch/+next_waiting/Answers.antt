@@ -1,5 +1,4 @@
-use Rattle.std.proofs.Common.{rules, arith, ◌≤◌, ◌-◌, length, take, drop, get_or, subst, sym, MatchOption}
-use Rattle.cap_tree.specs.Walk.{HasNoMarkAfter, IsMarkAfter, mark_at}
+use Rattle.cap_tree.proofs.Prelude.{rules, arith, ◌≤◌, ◌-◌, length, take, drop, get_or, subst, sym, MatchOption, HasNoMarkAfter, IsMarkAfter, mark_at}
 use Rattle.cap_tree.proofs.Spots.{steps-empty, steps-is}
 use Rattle.cap_tree.proofs.Walks.{after_all, after_in, at_root, child_marked, child_once, child_there, has_child, waits_above}
 use Rattle.cap_tree.proofs.branch.Branch.+next_waiting.Goals as goal

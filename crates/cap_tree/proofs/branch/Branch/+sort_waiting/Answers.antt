@@ -1,8 +1,4 @@
-use Rattle.std.proofs.Common.{rules, arith, ◌≡◌, ◌<◌, ◌∙◌, ap, length, subst, sym, set}
-use Rattle.std.proofs.lemmas.List.{set-get_or}
-use Rattle.cap_tree.specs.Branch.{IsBranch}
-use Rattle.cap_tree.specs.Service.{AreApart, IsOrderOf, kid_items, that_pass}
-use Rattle.cap_tree.specs.Spot.{spots}
+use Rattle.cap_tree.proofs.Prelude.{rules, arith, ◌≡◌, ◌<◌, ◌∙◌, ap, length, subst, sym, set, set-get_or, IsBranch, AreApart, IsOrderOf, kid_items, that_pass, spots}
 use Rattle.cap_tree.proofs.Finds.{child-lt}
 use Rattle.cap_tree.proofs.Orders.{kids_differ}
 use Rattle.cap_tree.proofs.Service.{once_in_child}

@@ -1,10 +1,7 @@
-use Rattle.std.proofs.Common.{rules, arith, ◌≡◌, ◌++◌, ◌∷◌, [], ap, sym, ◌∙◌, subst, refl, length, length-append}
-use Rattle.std.specs.List.{All, sum_by}
-use Rattle.std.proofs.lemmas.List.Elements.{All-append, All-cons, All-nil}
-use Rattle.std.proofs.lemmas.List.Sums.{sum_by-append}
-use Rattle.cap_tree.specs.Spot.{spots, first_of, IsAdded}
+use Rattle.cap_tree.proofs.Prelude.{rules, arith, ◌≡◌, ◌++◌, ◌∷◌, [], ap, sym, ◌∙◌, subst, refl, length, All, All-append, All-cons, All-nil, sum_by-append, spots, first_of, IsAdded, AreSpots, IsBranch, root_count}
+use Rattle.std.proofs.Common.{length-append}
+use Rattle.std.specs.List.{sum_by}
 use Rattle.cap_tree.proofs.Adding.{added_here, kids-lt}
-use Rattle.cap_tree.specs.Branch.{AreSpots, IsBranch, root_count}
 use Rattle.cap_tree.proofs.Trees.{tree_of, trees_filled}
 use Rattle.cap_tree.proofs.branch.Branch.add_child.Goals as goal
 

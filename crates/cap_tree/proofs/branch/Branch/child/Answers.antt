@@ -1,6 +1,4 @@
-use Rattle.std.proofs.Common.{arith, ◌∷◌, [], ◌∙◌, ap, sym, subst, IfSome}
-use Rattle.cap_tree.specs.Spot.{IsPosition}
-use Rattle.cap_tree.specs.Service.{child_item}
+use Rattle.cap_tree.proofs.Prelude.{arith, ◌∷◌, [], ◌∙◌, ap, sym, subst, IfSome, IsPosition, child_item}
 use Rattle.cap_tree.proofs.Spots.{in_child}
 use Rattle.cap_tree.proofs.Service.{top_of_child}
 use Rattle.cap_tree.proofs.branch.Branch.child.Goals as goal

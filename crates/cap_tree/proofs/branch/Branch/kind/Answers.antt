@@ -1,5 +1,4 @@
-use Rattle.std.proofs.Common.{arith}
-use Rattle.std.proofs.lemmas.Bool.Decides.{nat_tests}
+use Rattle.cap_tree.proofs.Prelude.{arith, nat_tests}
 use Rattle.cap_tree.proofs.Looking.{parent_has_below, leaf_has_none_below}
 use Rattle.cap_tree.proofs.Trees.{trees_filled}
 use Rattle.cap_tree.proofs.branch.Branch.kind.Goals as goal

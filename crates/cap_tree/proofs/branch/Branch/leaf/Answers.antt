@@ -1,6 +1,4 @@
-use Rattle.std.proofs.Common.{arith, subst, sym}
-use Rattle.std.proofs.lemmas.List.Elements.{All-nil}
-use Rattle.cap_tree.specs.Branch.{AreSpots, IsBranch}
+use Rattle.cap_tree.proofs.Prelude.{arith, subst, sym, All-nil, AreSpots, IsBranch}
 use Rattle.cap_tree.proofs.branch.Branch.leaf.Goals as goal
 
 pub invariant_of-result : goal.invariant_of-result

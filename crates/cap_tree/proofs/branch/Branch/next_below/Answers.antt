@@ -1,6 +1,4 @@
-use Rattle.std.proofs.Common.{arith, ◌≡◌, ◌<◌, [], ◌∙◌, Some, ap, sym, length}
-use Rattle.std.specs.Option.{option_copied}
-use Rattle.cap_tree.specs.Service.{child_item, children_at, is_after, is_before, that_pass}
+use Rattle.cap_tree.proofs.Prelude.{arith, ◌≡◌, ◌<◌, [], ◌∙◌, Some, ap, sym, length, option_copied, child_item, children_at, is_after, is_before, that_pass}
 use Rattle.cap_tree.proofs.branch.Branch.next_below.Goals.{then-passes+then-is_after+then-is_before, else-passes, else-passes-via-then-passes+then-is_after+else-is_before, else-passes-via-then-passes+else-is_after, else-passes-via-else-passes}
 use Rattle.cap_tree.proofs.Service.{named, named_passing, named_so_far, child_named, passing, failing, top_of_child, taken, passed, kept, skipped, of_all, there_within}
 use Rattle.cap_tree.proofs.branch.Branch.next_below.Goals as goal

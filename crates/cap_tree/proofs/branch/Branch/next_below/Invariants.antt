@@ -1,5 +1,4 @@
-use Rattle.std.proofs.Common.{[]}
-use Rattle.cap_tree.specs.Service.{children_at, that_pass}
+use Rattle.cap_tree.proofs.Prelude.{[], children_at, that_pass}
 use Rattle.cap_tree.proofs.Service.{IsFirstOf}
 use Rattle.cap_tree.proofs.branch.Branch.next_below.Given as goal
 

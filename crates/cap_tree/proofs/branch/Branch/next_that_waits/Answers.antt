@@ -1,7 +1,4 @@
-use Rattle.std.proofs.Common.{◌≡◌, ◌∙◌, [], refl, subst, sym, MatchOption}
-use Rattle.std.specs.List.{slice_get}
-use Rattle.std.specs.Option.{option_copied}
-use Rattle.cap_tree.specs.Service.{HasNoneAfter, IsFirstAfter, IsPlaceAfter, children_at, kid_items, that_pass}
+use Rattle.cap_tree.proofs.Prelude.{◌≡◌, ◌∙◌, [], refl, subst, sym, MatchOption, slice_get, option_copied, HasNoneAfter, IsFirstAfter, IsPlaceAfter, children_at, kid_items, that_pass}
 use Rattle.cap_tree.proofs.Orders.{IsPlaceOf, got, next_of_all}
 use Rattle.cap_tree.proofs.branch.Branch.next_that_waits.Goals.{in-None, in-Some}
 use Rattle.cap_tree.proofs.branch.Branch.next_that_waits.Goals as goal

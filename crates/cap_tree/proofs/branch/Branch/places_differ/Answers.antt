@@ -1,5 +1,4 @@
-use Rattle.std.proofs.Common.{subst}
-use Rattle.cap_tree.specs.Branch.{AreSpots}
+use Rattle.cap_tree.proofs.Prelude.{subst, AreSpots}
 use Rattle.cap_tree.proofs.Trees.{tree_of}
 use Rattle.cap_tree.proofs.Walks.{all_differ}
 use Rattle.cap_tree.proofs.branch.Branch.places_differ.Goals as goal

@@ -1,5 +1,4 @@
-use Rattle.cap_tree.specs.Queue.{Queue}
-use Rattle.std.proofs.Common.{ap}
+use Rattle.cap_tree.proofs.Prelude.{Queue, ap}
 use Rattle.cap_tree.proofs.queue.Queue.factor.Goals as goal
 
 pub returns : goal.returns

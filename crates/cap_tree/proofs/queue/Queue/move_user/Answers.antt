@@ -1,7 +1,4 @@
-use Rattle.std.proofs.Common.{rules, arith, ap, sym, subst}
-use Rattle.cap_tree.specs.Count.{IsPart, MayMove}
-use Rattle.cap_tree.specs.Queue.{queue_count}
-use Rattle.cap_tree.specs.QueueLaws.{count_le_all}
+use Rattle.cap_tree.proofs.Prelude.{rules, arith, ap, sym, subst, IsPart, MayMove, queue_count, count_le_all}
 use Rattle.cap_tree.proofs.Rooms.{room_in_child}
 use Rattle.cap_tree.proofs.queue.Queue.move_user.Goals as goal
 

@@ -1,5 +1,4 @@
-use Rattle.std.proofs.Common.{None, Some, sym, ◌∙◌, ap}
-use Rattle.std.specs.Prelude.{if◌then◌else◌}
+use Rattle.cap_tree.proofs.Prelude.{None, Some, sym, ◌∙◌, ap, if◌then◌else◌}
 use Rattle.cap_tree.proofs.Users.{user_row-entries, counted-entries}
 use Rattle.cap_tree.proofs.queue.Queue.set_user.Goals as goal
 

@@ -1,5 +1,4 @@
-use Rattle.std.proofs.Common.{sym, ◌∙◌, ap}
-use Rattle.cap_tree.specs.Queue.{count_in}
+use Rattle.cap_tree.proofs.Prelude.{sym, ◌∙◌, ap, count_in}
 use Rattle.cap_tree.proofs.Users.{user_row-entries}
 use Rattle.cap_tree.proofs.queue.Queue.user.Goals as goal
 

@@ -1,6 +1,5 @@
 use Rattle.cap_tree.proofs.Sizes.{count_in_queue}
-use Rattle.std.proofs.Common.{ap, ◌∙◌}
-use Rattle.cap_tree.specs.Count.{Count}
+use Rattle.cap_tree.proofs.Prelude.{ap, ◌∙◌, Count}
 use Rattle.cap_tree.proofs.queue.Queue.user_use.Goals as goal
 
 pub returns : goal.returns

@@ -1,5 +1,4 @@
-use Rattle.std.proofs.Common.{sym, ◌∙◌}
-use Rattle.std.specs.FinMap.{from_entries}
+use Rattle.cap_tree.proofs.Prelude.{sym, ◌∙◌, from_entries}
 use Rattle.cap_tree.proofs.Sizes.{count_in_queue}
 use Rattle.cap_tree.proofs.queue.QueueCopyIn.copy_in.Goals as goal
 

@@ -1,10 +1,5 @@
 use Rattle.cap_tree.proofs.Sizes.{shares_in_queue}
-use Rattle.cap_vector.specs.Fullness.{shares_cmp}
-use Rattle.std.specs.Cmp.Lexicographic.{slice_cmp}
-use Rattle.std.specs.declared.cmp.Ordering.TheVariants.{Less, Equal, Greater}
-use Rattle.std.specs.declared.cmp.Ordering.{Ordering}
-use Rattle.std.specs.Ordering.{is_ne, nat_cmp, ordering_then}
-use Rattle.std.proofs.Common.{◌≡◌, ◌∙◌, true, false, ap, sym, refl}
+use Rattle.cap_tree.proofs.Prelude.{shares_cmp, slice_cmp, Less, Equal, Greater, Ordering, is_ne, nat_cmp, ordering_then, ◌≡◌, ◌∙◌, true, false, ap, sym, refl}
 use Rattle.cap_tree.proofs.queue.QueueServed.cmp_served.Goals as goal
 
 -- where two orders follow each other, the first decides if it tells them apart, and the second otherwise

@@ -1,5 +1,4 @@
-use Rattle.std.proofs.Common.{arith, ap, ◌∙◌, map, subst, sym}
-use Rattle.cap_tree.specs.Seen.{IsSeenTree}
+use Rattle.cap_tree.proofs.Prelude.{arith, ap, ◌∙◌, map, subst, sym, IsSeenTree}
 use Rattle.cap_tree.proofs.Sizes.{seen_fits}
 use Rattle.cap_tree.proofs.Waits.{none_waits, rows_copied}
 use Rattle.cap_tree.proofs.seen.QueueTree+K+Global.seen_in.Goals as goal

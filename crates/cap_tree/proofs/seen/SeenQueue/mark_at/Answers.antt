@@ -1,7 +1,4 @@
-use Rattle.std.proofs.Common.{ap, ◌∙◌, ◌≡◌, ℕ, cond, sym}
-use Rattle.std.specs.Prelude.{◌==◌}
-use Rattle.std.proofs.lemmas.Bool.{eq-eqb, ne_eqb}
-use Rattle.cap_tree.specs.Seen.{SeenQueue, waiting_at}
+use Rattle.cap_tree.proofs.Prelude.{ap, ◌∙◌, ◌≡◌, ℕ, cond, sym, ◌==◌, eq-eqb, ne_eqb, SeenQueue, waiting_at}
 use Rattle.cap_tree.proofs.seen.SeenQueue.mark_at.Goals.{then-self-eq0, else-self-eq0}
 use Rattle.cap_tree.proofs.seen.SeenQueue.mark_at.Goals as goal
 

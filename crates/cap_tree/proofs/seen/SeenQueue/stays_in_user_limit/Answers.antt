@@ -1,6 +1,4 @@
-use Rattle.std.proofs.Common.{◌∙◌}
-use Rattle.cap_vector.specs.Vector.{amounts_exchanged}
-use Rattle.cap_base.specs.LimitTests.{fits_user_limit}
+use Rattle.cap_tree.proofs.Prelude.{◌∙◌, amounts_exchanged, fits_user_limit}
 use Rattle.cap_tree.proofs.Within.{fits_times}
 use Rattle.cap_tree.proofs.seen.SeenQueue.stays_in_user_limit.Goals as goal
 

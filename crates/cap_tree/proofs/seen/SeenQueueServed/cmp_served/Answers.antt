@@ -1,12 +1,4 @@
-use Rattle.std.proofs.Common.{◌≡◌, ◌∙◌, ap, sym}
-use Rattle.std.proofs.lemmas.Cmp.{tied_itself}
-use Rattle.std.proofs.lemmas.Slice.Eq.{bytes_eq-Decides}
-use Rattle.std.specs.Ordering.{nat_cmp, ordering_then}
-use Rattle.std.specs.Cmp.Lexicographic.{slice_cmp}
-use Rattle.cap_vector.specs.Fullness.{shares, shares_cmp}
-use Rattle.cap_base.proofs.Levels.{shares_cmp_total}
-use Rattle.cap_tree.specs.Queue.{Queue}
-use Rattle.cap_tree.specs.Seen.{SeenQueue}
+use Rattle.cap_tree.proofs.Prelude.{◌≡◌, ◌∙◌, ap, sym, tied_itself, bytes_eq-Decides, nat_cmp, ordering_then, slice_cmp, shares, shares_cmp, shares_cmp_total, Queue, SeenQueue}
 use Rattle.cap_tree.proofs.Sizes.{amounts_in_seen, shares_in_seen}
 use Rattle.cap_tree.proofs.seen.SeenQueueServed.cmp_served.Goals as goal
 

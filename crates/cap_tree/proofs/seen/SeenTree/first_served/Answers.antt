@@ -1,7 +1,4 @@
-use Rattle.std.proofs.Common.{[], ap, ◌∙◌, map, subst, sym}
-use Rattle.cap_base.specs.Cascade.{holds_of}
-use Rattle.cap_tree.specs.Seen.{SeenQueue}
-use Rattle.cap_tree.specs.Spot.{HoldsOfItem, item_at}
+use Rattle.cap_tree.proofs.Prelude.{[], ap, ◌∙◌, map, subst, sym, holds_of, SeenQueue, HoldsOfItem, item_at}
 use Rattle.cap_tree.proofs.NextServed.{first_is, none_first, once}
 use Rattle.cap_tree.proofs.Sizes.{seen_fits}
 use Rattle.cap_tree.proofs.seen.SeenTree.first_served.Goals as goal

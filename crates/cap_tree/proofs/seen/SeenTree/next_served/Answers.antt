@@ -1,7 +1,4 @@
-use Rattle.std.proofs.Common.{arith, ◌∙◌, ◌-◌, Some, sym, subst, map}
-use Rattle.std.proofs.lemmas.Option.{slice_get_within}
-use Rattle.cap_tree.specs.Seen.{rows_seen}
-use Rattle.cap_tree.specs.ServiceOrder.{IsFirstLater}
+use Rattle.cap_tree.proofs.Prelude.{arith, ◌∙◌, ◌-◌, Some, sym, subst, map, slice_get_within, rows_seen, IsFirstLater}
 use Rattle.cap_tree.proofs.NextServed.{has_mark, link_is, link_read, next_is, none_next, once}
 use Rattle.cap_tree.proofs.Sizes.{seen_fits}
 use Rattle.cap_tree.proofs.seen.SeenTree.next_served.Goals as goal

@@ -1,10 +1,4 @@
-use Rattle.std.proofs.Common.{◌∙◌, sym, ap}
-use Rattle.std.specs.Prelude.{option_map}
-use Rattle.cap_vector.specs.Vector.{amounts_exchanged}
-use Rattle.cap_base.specs.Cascade.{holds_of}
-use Rattle.cap_base.specs.LimitTests.{fits_user_limit}
-use Rattle.cap_tree.specs.Queue.{stays_in_maximum}
-use Rattle.cap_tree.specs.Seen.{SeenQueue, rows_seen}
+use Rattle.cap_tree.proofs.Prelude.{◌∙◌, sym, ap, option_map, amounts_exchanged, holds_of, fits_user_limit, stays_in_maximum, SeenQueue, rows_seen}
 use Rattle.cap_tree.proofs.Copies.{failing_along-made, item_at-made, position-made}
 use Rattle.cap_tree.proofs.Sizes.{seen_fits}
 use Rattle.cap_tree.proofs.Within.{leaf_decides, one_fails}

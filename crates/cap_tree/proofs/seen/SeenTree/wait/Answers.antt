@@ -1,9 +1,4 @@
-use Rattle.std.proofs.Common.{arith, ◌∙◌, ◌≡◌, ◌+◌, ◌++◌, ◌∷◌, [], ap, sym, subst, map, length, inl}
-use Rattle.std.specs.Option.{option_map_or}
-use Rattle.std.proofs.lemmas.List.{map_push}
-use Rattle.cap_tree.specs.Seen.{IsSeenTree, SeenQueue, waiting_at, waiting_below}
-use Rattle.cap_tree.specs.Spot.{IsPosition, change_along}
-use Rattle.cap_tree.specs.Walk.{mark_at}
+use Rattle.cap_tree.proofs.Prelude.{arith, ◌∙◌, ◌≡◌, ◌+◌, ◌++◌, ◌∷◌, [], ap, sym, subst, map, length, inl, option_map_or, map_push, IsSeenTree, SeenQueue, waiting_at, waiting_below, IsPosition, change_along, mark_at}
 use Rattle.cap_tree.proofs.Callers.{never_grows}
 use Rattle.cap_tree.proofs.Copies.{position-made}
 use Rattle.cap_tree.proofs.Sizes.{seen_fits}

@@ -1,6 +1,4 @@
-use Rattle.std.proofs.Common.{◌∙◌, ap, sym}
-use Rattle.std.specs.Option.{option_map_or}
-use Rattle.cap_tree.specs.Queue.{Queue}
+use Rattle.cap_tree.proofs.Prelude.{◌∙◌, ap, sym, option_map_or, Queue}
 use Rattle.cap_tree.proofs.Sizes.{queue_fits}
 use Rattle.cap_tree.proofs.tree.QueueTree.active.Goals as goal
 

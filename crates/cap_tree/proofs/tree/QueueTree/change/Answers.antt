@@ -1,7 +1,4 @@
-use Rattle.std.proofs.Common.{rules, ◌≡◌, ◌∙◌, sym, refl, subst, None}
-use Rattle.cap_tree.specs.Count.{IsPart}
-use Rattle.cap_tree.specs.Queue.{count_in, moved_above, moved_at}
-use Rattle.cap_tree.specs.Rows.{AreRows}
+use Rattle.cap_tree.proofs.Prelude.{rules, ◌≡◌, ◌∙◌, sym, refl, subst, None, IsPart, count_in, moved_above, moved_at, AreRows}
 use Rattle.cap_tree.proofs.Callers.{row_holds, holds_of_row}
 use Rattle.cap_tree.proofs.Listings.{rows_kept}
 use Rattle.cap_tree.proofs.RowPaths.{changed_rows}

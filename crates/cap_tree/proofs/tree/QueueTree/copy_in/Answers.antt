@@ -1,5 +1,4 @@
-use Rattle.std.proofs.Common.{◌∙◌, sym, subst}
-use Rattle.cap_tree.specs.Rows.{AreRows}
+use Rattle.cap_tree.proofs.Prelude.{◌∙◌, sym, subst, AreRows}
 use Rattle.cap_tree.proofs.Copies.{made-itself}
 use Rattle.cap_tree.proofs.Sizes.{path_fits, queue_fits}
 use Rattle.cap_tree.proofs.tree.QueueTree.copy_in.Goals as goal

@@ -1,7 +1,4 @@
-use Rattle.std.proofs.Common.{sym, subst}
-use Rattle.cap_tree.specs.Count.{Count, IsPart}
-use Rattle.cap_tree.specs.Queue.{count_in}
-use Rattle.cap_tree.specs.Rows.{HasRoomAtRoot, user_row_at}
+use Rattle.cap_tree.proofs.Prelude.{sym, subst, Count, IsPart, count_in, HasRoomAtRoot, user_row_at}
 use Rattle.cap_tree.proofs.Callers.{entering_part, room_entering}
 use Rattle.cap_tree.proofs.Sizes.{count_fits, move_fits}
 use Rattle.cap_tree.proofs.tree.QueueTree.enter.Goals as goal

@@ -1,5 +1,4 @@
-use Rattle.std.proofs.Common.{◌∙◌, sym, ap}
-use Rattle.cap_tree.specs.Finding.{is_parent}
+use Rattle.cap_tree.proofs.Prelude.{◌∙◌, sym, ap, is_parent}
 use Rattle.cap_tree.proofs.Finding.{found_at, children_at, missing}
 use Rattle.cap_tree.proofs.Sizes.{path_fits, queue_fits}
 use Rattle.cap_tree.proofs.tree.QueueTree.find.Goals as goal

@@ -1,8 +1,5 @@
 use Rattle.cap_tree.proofs.Sizes.{row_fits}
-use Rattle.std.proofs.Common.{rules, arith, ◌∙◌, ◌≡◌, ◌∷◌, ◌++◌, ◌-◌, ap, refl, sym, subst, take, drop, length}
-use Rattle.cap_base.specs.Listing.{IsListing}
-use Rattle.cap_tree.specs.Growth.{IsGrowing}
-use Rattle.cap_tree.specs.Rows.{queues_of}
+use Rattle.cap_tree.proofs.Prelude.{rules, arith, ◌∙◌, ◌≡◌, ◌∷◌, ◌++◌, ◌-◌, ap, refl, sym, subst, take, drop, length, IsListing, IsGrowing, queues_of}
 use Rattle.cap_tree.proofs.Growing.{start, finished, none_listed, split_list, unused_stored, unused_own}
 use Rattle.cap_tree.proofs.tree.QueueTree.from_config.Goals as goal
 

@@ -1,7 +1,4 @@
-use Rattle.std.proofs.Common.{sym, subst}
-use Rattle.cap_tree.specs.Count.{Count, IsPart}
-use Rattle.cap_tree.specs.Queue.{MayGive, count_in}
-use Rattle.cap_tree.specs.Rows.{HasRoomAtRoot, user_row_at}
+use Rattle.cap_tree.proofs.Prelude.{sym, subst, Count, IsPart, MayGive, count_in, HasRoomAtRoot, user_row_at}
 use Rattle.cap_tree.proofs.Callers.{giving_part, room_falling, there_holds}
 use Rattle.cap_tree.proofs.Sizes.{count_fits, move_fits}
 use Rattle.cap_tree.proofs.tree.QueueTree.give_back.Goals as goal

@@ -1,5 +1,4 @@
-use Rattle.std.proofs.Common.{rules, ◌≡◌, ◌∙◌, Bool, true, false, ap, sym}
-use Rattle.std.specs.Prelude.{is_some, not}
+use Rattle.cap_tree.proofs.Prelude.{rules, ◌≡◌, ◌∙◌, Bool, true, false, ap, sym, is_some, not}
 use Rattle.cap_tree.proofs.RowPaths.{running_rows}
 use Rattle.cap_tree.proofs.Sizes.{queue_fits}
 use Rattle.cap_tree.proofs.tree.QueueTree.running.Goals as goal

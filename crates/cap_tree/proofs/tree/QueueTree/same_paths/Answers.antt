@@ -1,9 +1,4 @@
-use Rattle.std.proofs.Common.{◌≡◌, ◌∙◌, length, ap, arith, refl, rules, sym, subst, false, true}
-use Rattle.std.specs.List.{list_all}
-use Rattle.std.proofs.lemmas.List.{length-map, take_all}
-use Rattle.cap_base.specs.Listing.{IsListing}
-use Rattle.cap_base.specs.Trees.{has_path, has_same_paths}
-use Rattle.cap_tree.specs.Rows.{queues_of, settings_of_row}
+use Rattle.cap_tree.proofs.Prelude.{◌≡◌, ◌∙◌, length, ap, arith, refl, rules, sym, subst, false, true, list_all, length-map, take_all, IsListing, has_path, has_same_paths, queues_of, settings_of_row}
 use Rattle.cap_tree.proofs.Counting.{count_is, is_count}
 use Rattle.cap_tree.proofs.SamePaths.{found_path, one_missing, one_more, same_count}
 use Rattle.cap_tree.proofs.tree.QueueTree.same_paths.Goals as goal

@@ -1,8 +1,4 @@
-use Rattle.std.proofs.Common.{◌≡◌, ◌∙◌, sym, subst, arith, true, map}
-use Rattle.std.proofs.lemmas.List.{map-id}
-use Rattle.cap_base.specs.Listing.{IsListing}
-use Rattle.cap_base.specs.Trees.{has_same_paths}
-use Rattle.cap_tree.specs.Rows.{queues_of, with_row_of_path}
+use Rattle.cap_tree.proofs.Prelude.{◌≡◌, ◌∙◌, sym, subst, arith, true, map, map-id, IsListing, has_same_paths, queues_of, with_row_of_path}
 use Rattle.cap_tree.proofs.RowSettings.{all_rows, never_missing, next_row, row_factor}
 use Rattle.cap_tree.proofs.Sizes.{path_fits, row_in_tree}
 use Rattle.cap_tree.proofs.tree.QueueTree.set_limits.Goals as goal

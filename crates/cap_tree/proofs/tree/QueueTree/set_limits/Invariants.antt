@@ -1,5 +1,4 @@
-use Rattle.std.proofs.Common.{◌≡◌, map, take}
-use Rattle.cap_tree.specs.Rows.{with_row_of_path}
+use Rattle.cap_tree.proofs.Prelude.{◌≡◌, map, take, with_row_of_path}
 use Rattle.cap_tree.proofs.tree.QueueTree.set_limits.Given as goal
 
 abbrev pub invariant-loop-row : goal.invariant-loop-row

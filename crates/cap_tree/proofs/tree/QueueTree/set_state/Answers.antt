@@ -1,7 +1,4 @@
-use Rattle.std.proofs.Common.{rules, arith, ◌∙◌, sym, subst, inl}
-use Rattle.cap_tree.specs.Queue.{with_running}
-use Rattle.cap_tree.specs.Rows.{AreRows}
-use Rattle.cap_tree.specs.Spot.{path_at, IsPosition}
+use Rattle.cap_tree.proofs.Prelude.{rules, arith, ◌∙◌, sym, subst, inl, with_running, AreRows, path_at, IsPosition}
 use Rattle.cap_tree.proofs.Callers.{never_grows}
 use Rattle.cap_tree.proofs.Listings.{state_rows, state_kept}
 use Rattle.cap_tree.proofs.RowPaths.{changed_rows}

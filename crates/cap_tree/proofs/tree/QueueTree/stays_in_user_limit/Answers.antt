@@ -1,7 +1,4 @@
-use Rattle.std.proofs.Common.{rules, ◌≡◌, ◌∙◌, Some, ap, sym}
-use Rattle.cap_base.specs.Cascade.{holds_of}
-use Rattle.cap_tree.specs.Queue.{stays_in_user_limit}
-use Rattle.cap_tree.specs.Spot.{item_at}
+use Rattle.cap_tree.proofs.Prelude.{rules, ◌≡◌, ◌∙◌, Some, ap, sym, holds_of, stays_in_user_limit, item_at}
 use Rattle.cap_tree.proofs.Sizes.{queue_fits}
 use Rattle.cap_tree.proofs.tree.QueueTree.stays_in_user_limit.Goals as goal
 

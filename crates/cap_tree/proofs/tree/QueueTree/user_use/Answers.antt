@@ -1,7 +1,4 @@
-use Rattle.std.proofs.Common.{rules, ◌≡◌, ◌∙◌, Some, None, ap, sym}
-use Rattle.std.specs.Option.{option_map_or}
-use Rattle.cap_tree.specs.Queue.{Queue, use_of, user_row}
-use Rattle.cap_tree.specs.Spot.{item_at}
+use Rattle.cap_tree.proofs.Prelude.{rules, ◌≡◌, ◌∙◌, Some, None, ap, sym, option_map_or, Queue, use_of, user_row, item_at}
 use Rattle.cap_tree.proofs.Sizes.{queue_fits}
 use Rattle.cap_tree.proofs.tree.QueueTree.user_use.Goals as goal
 

@@ -1,8 +1,5 @@
-use Rattle.std.proofs.Common.{◌<◌, ap, refl, ◌∙◌, arith}
-use Rattle.std.proofs.lemmas.List.Elements.{All-from_get_or}
-use Rattle.cap_frames.specs.Stream.{IsBytes}
+use Rattle.cap_world.proofs.Prelude.{◌<◌, ap, refl, ◌∙◌, arith, All-from_get_or, IsBytes, Connection}
 use Rattle.cap_world.specs.declared.connection.Standing.TheVariants as standings
-use Rattle.cap_world.specs.Connection.{Connection}
 use Rattle.cap_world.proofs.ServedRequests.{feeds_served, feeds_starved}
 use Rattle.cap_world.proofs.connection.Connection.feed.Goals as goal
 

@@ -1,6 +1,4 @@
-use Rattle.std.proofs.Common.{◌≡◌, ◌++◌, ◌∙◌, ap, sym, length, List, arith}
-use Rattle.cap_base.specs.Limits.{resources}
-use Rattle.cap_model.specs.declared.event.Event.{Event}
+use Rattle.cap_world.proofs.Prelude.{◌≡◌, ◌++◌, ◌∙◌, ap, sym, length, List, arith, resources, Event}
 use Rattle.cap_world.proofs.Heard.{heard_next}
 use Rattle.cap_world.proofs.Running.{headline_all, headline_cut, makes_next, made_all, made_cut, went_on, as_made, was_refused}
 use Rattle.cap_world.proofs.world.World.run.Goals as goal

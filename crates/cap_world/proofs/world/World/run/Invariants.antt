@@ -1,6 +1,4 @@
-use Rattle.std.proofs.Common.{◌≡◌, [], take}
-use Rattle.cap_world.specs.World.{IsWorld, start}
-use Rattle.cap_world.specs.Making.{Makes}
+use Rattle.cap_world.proofs.Prelude.{◌≡◌, [], take, IsWorld, start, Makes}
 use Rattle.cap_world.proofs.Heard.{HeardSoFar}
 use Rattle.cap_world.proofs.world.World.run.Given as goal
 

@@ -1,7 +1,4 @@
-use Rattle.std.proofs.Common.{ap, refl, length, List}
-use Rattle.cap_base.specs.Limits.{resources}
-use Rattle.cap_model.specs.declared.event.Event.{Event}
-use Rattle.cap_world.specs.World.{Known, WorldState, opening_of}
+use Rattle.cap_world.proofs.Prelude.{ap, refl, length, List, resources, Event, Known, WorldState, opening_of}
 use Rattle.cap_world.proofs.Keeping.{lawful_kept, adds_kept}
 use Rattle.cap_world.proofs.world.World.step.Goals as goal
 

@@ -1,0 +1,41 @@
+-- What the proofs here take from elsewhere.
+pub use Rattle.std.proofs.Common.{Bool, Err, List, None, Option, Some, [], ap, append_assoc, arith, cond, drop, false, get_or, inl, inr, length, length-append, map, refl, subst, suc, sym, take, true, zero, ℕ, ◌%◌, ◌*◌, ◌++◌, ◌+◌, ◌-◌, ◌<◌, ◌^◌, ◌∙◌, ◌∷◌, ◌≡◌, ◌≤◌, ◌⊎◌}
+pub use Rattle.std.proofs.Math.Seq.{drop-drop}
+pub use Rattle.std.proofs.lemmas.Bool.{and_parts, cases_lt, eqb-true, le-ltb, leb-true, lt-ltb, ltb-false, or_cases}
+pub use Rattle.std.proofs.lemmas.Bool.Decides.{nat_tests}
+pub use Rattle.std.proofs.lemmas.List.{append-nil, drop_all, drop_at, get_or-drop, get_or-take, get_or_past, length-replicate, length-take, nil_from_length, replicate-append-replicate, take-append-drop, take-replicate, take_all, take_at}
+pub use Rattle.std.proofs.lemmas.List.Elements.{All-append, All-cons, All-from_recursion, All-nil}
+pub use Rattle.std.proofs.lemmas.Nat.{be_bytes_2, be_bytes_4, be_bytes_8, from_be_bytes-to_be_bytes_2, from_be_bytes-to_be_bytes_4, from_be_bytes-to_be_bytes_8}
+pub use Rattle.std.proofs.lemmas.Result.{err_from_is_err_and}
+pub use Rattle.std.specs.Int.{Width, byte_len, from_be_bytes, to_be_bytes, w16, w32, w64}
+pub use Rattle.std.specs.List.{AllByRecursion, flat_map, list_all}
+pub use Rattle.std.specs.Prelude.{IfOk, IfSome, IsErrOf, Ok, Result, if◌then◌else◌, is_some, nat_le, nat_lt, option_map, slice_index, unwrap_or, ◌&&◌, ◌==◌, ◌||◌}
+pub use Rattle.cap_base.specs.Cascade.{holds_of}
+pub use Rattle.cap_base.specs.Limits.{asks_max, news_max, numbers_max, resources, text_max}
+pub use Rattle.cap_base.specs.Texts.{is_graphic, is_text}
+pub use Rattle.cap_frames.specs.Stream.{IsBytes}
+pub use Rattle.cap_grammar.specs.Answers.{Says}
+pub use Rattle.cap_grammar.specs.Bodies.{HasItemsAt, ListsItems, allocate_at, ask_at, ask_of, body_at, cluster_info_at, finish_master_at, heartbeat_at, lines_at, node_gone_at, path_text_at, queue_info_at, queue_state_at, refresh_at, register_master_at, register_node_at, registration_at, report_at, set_queue_state_at, submission_at, submit_at, wish_at, wishes_at}
+pub use Rattle.cap_grammar.specs.Fields.{all_at, amount_at, amounts_at, byte_at, counted_at, flag_at, flag_of_byte, number_at, pair_at, passing_at, text_at, times_at, ◌>>=◌}
+pub use Rattle.cap_grammar.specs.Laws.{node_with_two_amounts}
+pub use Rattle.cap_grammar.specs.Reading.{CarriesItems, GivesInMemory, head_at, request_at}
+pub use Rattle.cap_grammar.specs.Shown.{IsShownVector, shown, shown_amounts, shown_grant, shown_news}
+pub use Rattle.cap_grammar.specs.Spelling.{FitsAllocated, FitsAsk, FitsBeat, FitsByte, FitsEnd, FitsGrant, FitsListed, FitsNumber, FitsRefusal, FitsReply, FitsRequest, IsKind, IsNoRequest, IsOfKind, IsReply, IsRequest, allocate_bytes, ask, beat, byte, cluster_report, counted_list, end, fault_reply, flag, grant, kind_of, limit, list_bytes, queue_report, refusal_body, refusal_bytes, reply_body, reply_bytes, request_body, request_bytes, resource, text}
+pub use Rattle.cap_grammar.specs.Texts.{is_host, is_path, is_place, is_rack, is_user}
+pub use Rattle.cap_grammar.specs.Versions.{amounts_in, is_version}
+pub use Rattle.cap_grammar.specs.declared.fault.MessageFault.{MessageFault}
+pub use Rattle.cap_grammar.specs.declared.fault.MessageFault.TheVariants.{NoMemory}
+pub use Rattle.cap_grammar.specs.declared.head.Head.{Head}
+pub use Rattle.cap_model.specs.Asks.{Ask}
+pub use Rattle.cap_model.specs.News.{AllocateReply, Grant, Reply, cause_number}
+pub use Rattle.cap_model.specs.Refusals.{status_of}
+pub use Rattle.cap_model.specs.declared.ask.Key.{Key}
+pub use Rattle.cap_model.specs.declared.news.Cause.{Cause}
+pub use Rattle.cap_model.specs.declared.news.End.{End}
+pub use Rattle.cap_model.specs.declared.refusal.Refusal.{Refusal}
+pub use Rattle.cap_model.specs.declared.refusal.Refusal.TheVariants.{AlreadyRegistered, AskTooLarge, BadResponseId, BadSettings, HostTaken, NotLeaf, NotRegistered, NumbersSpent, OtherQueues, QueueStopped, TooManyApplications, TooManyAsks, TooManyNodes, TotalTooLarge, UnknownApplication, UnknownNode, UnknownQueue, ZeroResource}
+pub use Rattle.cap_model.specs.declared.replies.HeartbeatReply.{HeartbeatReply}
+pub use Rattle.cap_model.specs.declared.report.ClusterReport.{ClusterReport}
+pub use Rattle.cap_model.specs.declared.report.QueueReport.{QueueReport}
+pub use Rattle.cap_model.specs.declared.request.Request.{Request}
+pub use Rattle.cap_vector.specs.Vector.{IsResource, IsSum, IsVector, IsWithin, amount_max, sum_max, zeros}
