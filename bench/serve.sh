@@ -110,6 +110,22 @@ awk 'BEGIN {
     print "yarn.scheduler.capacity.root.q" i ".user-limit-factor=16"
   }
 }' >"$work/config"
+# runs engine_runs on the numbers
+copy() { echo 512 64 256 512 0 "$@" | "$top/crates/engine_runs/out/engine_runs" >"$work/output"; }
+
+# how long a copy of the parts of such a cluster takes by itself, in nanoseconds
+best_of_three copy 0
+none=$best
+best_of_three copy 20000
+copy_time=$(((best - none) * 50))
+echo "a copy of the cluster takes $copy_time ns by itself"
+
+# share: for how much of the time the cluster is held by the copies of the turns that made a proposal, if each takes so long
+share() {
+  sed -n 's/^proposals: \([0-9]*\) made, \([0-9]*\) rejected$/\1 \2/p' "$work/messages" |
+    awk -v ns="$copy_time" -v s="$seconds" '{ printf "%.0f %% of the time in copies that led to a proposal", ($1 + $2) * ns / s / 1e7 }'
+}
+
 for run in '1 0' '2 0' '4 0' '1 64' '2 64' '4 8' '4 64'; do
   read -r workers lanes <<<"$run"
   port=$("$work/load" port)
@@ -119,6 +135,7 @@ for run in '1 0' '2 0' '4 0' '1 64' '2 64' '4 8' '4 64'; do
   echo "workers=$workers lanes=$lanes: $(figure 'grants a second were') grants a second, as masters were told"
   echo "workers=$workers lanes=$lanes: $(figure 'grants a second, by') grants a second, by the containers that ended and live"
   echo "workers=$workers lanes=$lanes: $slowest us at the 99th percentile of a ClusterInfo"
+  echo "workers=$workers lanes=$lanes: the cluster is held $(share)"
   echo "workers=$workers lanes=$lanes: $(tail -n 1 "$work/said")"
   echo "workers=$workers lanes=$lanes: $(tail -n 1 "$work/messages")"
 done

@@ -44,20 +44,29 @@ pub use Rattle.cap_base.specs.declared.properties.setting.Setting.{Setting}
 pub use Rattle.cap_base.specs.declared.properties.setting.Setting.TheVariants.{Capacity, MaximumApplications, MaximumCapacity, MaximumGpu, MaximumMemory, MaximumVcores, MinimumGpu, MinimumMemory, MinimumVcores, Queues, State, UserLimitFactor}
 pub use Rattle.cap_base.specs.declared.properties.value.Value.{Value}
 pub use Rattle.cap_base.specs.declared.properties.value.Value.TheVariants.{Amounts, Names, Number, Running}
-pub use Rattle.cap_base.specs.properties.Entries.{and_then, entry_of, is_passed_over, is_printable, key_text, line_parts, read_after, read_lines, with_key, with_parts, with_value}
+pub use Rattle.cap_base.specs.properties.Entries.{and_then, is_passed_over, is_printable, key_text, line_parts, read_lines, with_key, with_parts, with_value}
+unfoldable pub use Rattle.cap_base.specs.properties.Entries.{entry_of, read_after}
 pub use Rattle.cap_base.specs.properties.Fault.{FailsBy, fault_at}
-pub use Rattle.cap_base.specs.properties.First.{AnswersFault, fault_after, first_fault, settings_after, settings_in, unless_fault}
-pub use Rattle.cap_base.specs.properties.Keys.{dot_or, is_dot, is_name, is_name_byte, key_at, key_of, key_of_parts, last_dot, parts_at_last_dot, parts_round, prefix, queue_key, root}
-pub use Rattle.cap_base.specs.properties.Queues.{above, amounts_at, amounts_or, child, entry_for, guaranteed, is_below, is_entry_for, is_path_at, is_queue, leads_to_root, maximum, names_below, names_in_value, names_or_none, nearest_maximum, or_zero, same_setting, setting_number}
-pub use Rattle.cap_base.specs.properties.Rows.{factor, row_of, rows_under, running_or, settings_of}
+pub use Rattle.cap_base.specs.properties.First.{AnswersFault, fault_after, settings_after, unless_fault}
+unfoldable pub use Rattle.cap_base.specs.properties.First.{first_fault, settings_in}
+pub use Rattle.cap_base.specs.properties.Keys.{dot_or, is_dot, is_name_byte, key_at, key_of, key_of_parts, last_dot, parts_round}
+unfoldable pub use Rattle.cap_base.specs.properties.Keys.{is_name, parts_at_last_dot, prefix, queue_key, root}
+pub use Rattle.cap_base.specs.properties.Queues.{amounts_at, amounts_or, child, guaranteed, is_below, is_entry_for, is_path_at, is_queue, leads_to_root, maximum, names_below, names_in_value, names_or_none, nearest_maximum, or_zero, same_setting, setting_number}
+unfoldable pub use Rattle.cap_base.specs.properties.Queues.{above, entry_for}
+pub use Rattle.cap_base.specs.properties.Rows.{factor, running_or}
+unfoldable pub use Rattle.cap_base.specs.properties.Rows.{row_of, rows_under, settings_of}
 pub use Rattle.cap_base.specs.properties.Seen.{HasAll, contains_bytes}
-pub use Rattle.cap_base.specs.properties.Tests.{allocation_line, cluster_entry, exceeds, exceeds_limit, guaranteed_below, is_astray, is_deep, is_over_above, is_over_limit, is_over_maximum, is_over_parent, is_over_parts, is_overspent, lesser, level, line_or_zero, line_past, line_where, listed_by, lists_deep, lists_none, maximum_allocation, minimum_allocation, no_child_line, no_such_queue_line, number_in, number_or, or_else, or_fault, over_maximum_line, over_parent_line, pair_line, shape_fault, sum_below, too_deep_line, too_many_line, whole_fault}
-pub use Rattle.cap_base.specs.properties.Values.{amounts_in, amounts_of, are_new, as_amounts, as_names, digits_max, in_brackets, is_name_under, is_next, name_under, names_for, names_of, number_within, pieces_of, resource, state_of, value_at, value_of}
+pub use Rattle.cap_base.specs.properties.Tests.{cluster_entry, exceeds, exceeds_limit, guaranteed_below, is_astray, is_deep, is_over_above, is_over_limit, is_over_maximum, is_over_parent, is_over_parts, is_overspent, lesser, level, line_or_zero, listed_by, lists_deep, lists_none, maximum_allocation, minimum_allocation, no_such_queue_line, number_in, number_or, or_else, or_fault, over_maximum_line, over_parent_line, pair_line, sum_below, too_deep_line, too_many_line}
+unfoldable pub use Rattle.cap_base.specs.properties.Tests.{allocation_line, line_past, line_where, no_child_line, shape_fault, whole_fault}
+pub use Rattle.cap_base.specs.properties.Values.{are_new, as_amounts, as_names, digits_max, in_brackets, is_name_under, is_next, pieces_of, value_of}
+unfoldable pub use Rattle.cap_base.specs.properties.Values.{amounts_in, amounts_of, name_under, names_for, names_of, number_within, resource, state_of, value_at}
 pub use Rattle.cap_config.specs.Bounds.{are_bounded, are_under, has_each, is_bounded, is_kept, most_of}
-pub use Rattle.cap_config.specs.Details.{added_below, capped, limit_of, missing_from, missing_or, missing_path, over_own, over_some}
+pub use Rattle.cap_config.specs.Details.{added_below, capped, limit_of, missing_from, missing_or, missing_path, over_some}
+unfoldable pub use Rattle.cap_config.specs.Details.{over_own}
 pub use Rattle.cap_config.specs.Index.{FindsAll, entry_at, pointed_entry}
 pub use Rattle.cap_config.specs.Laws.{FaultsAreInLines, FaultsAreOfText, HasAmounts, HasListed, LinesAreFew, QueueHasAmounts, SettingsHaveAmounts}
-pub use Rattle.cap_config.specs.LineKeys.{first_with, nth_line, pieces, shows}
+pub use Rattle.cap_config.specs.LineKeys.{pieces, shows}
+unfoldable pub use Rattle.cap_config.specs.LineKeys.{first_with, nth_line}
 pub use Rattle.cap_config.specs.TreeLaws.{SettingsAreListed}
 pub use Rattle.cap_text.proofs.Cuts.{cut_shorter, rest_all, split_cut, split_uncut}
 pub use Rattle.cap_text.specs.Numbers.{number_of}

@@ -7,4 +7,4 @@ pub use Rattle.cap_examples.specs.ExampleRefresh.{lowered, lowered_queues, six_h
 pub use Rattle.cap_model.specs.Refresh.{after_refresh, first_of_settings, has_its_queues, lines_refusal, refreshed_settings}
 pub use Rattle.cap_model.specs.Replies.{Replies, refusal_of, refused_or}
 pub use Rattle.cap_model.specs.declared.request.Request.{Request}
-pub use Rattle.cap_vector.specs.Vector.{less, plus}
+unfoldable pub use Rattle.cap_vector.specs.Vector.{less, plus}

@@ -15,12 +15,16 @@ pub use Rattle.cap_base.specs.Limits.{asks_max, news_max, numbers_max, resources
 pub use Rattle.cap_base.specs.Texts.{is_graphic, is_text}
 pub use Rattle.cap_frames.specs.Stream.{IsBytes}
 pub use Rattle.cap_grammar.specs.Answers.{Says}
-pub use Rattle.cap_grammar.specs.Bodies.{HasItemsAt, ListsItems, allocate_at, ask_at, ask_of, body_at, cluster_info_at, finish_master_at, heartbeat_at, lines_at, node_gone_at, path_text_at, queue_info_at, queue_state_at, refresh_at, register_master_at, register_node_at, registration_at, report_at, set_queue_state_at, submission_at, submit_at, wish_at, wishes_at}
-pub use Rattle.cap_grammar.specs.Fields.{all_at, amount_at, amounts_at, byte_at, counted_at, flag_at, flag_of_byte, number_at, pair_at, passing_at, text_at, times_at, ◌>>=◌}
+pub use Rattle.cap_grammar.specs.Bodies.{HasItemsAt, ListsItems, ask_of, lines_at, path_text_at, queue_state_at, registration_at, report_at, submission_at, wish_at, wishes_at}
+unfoldable pub use Rattle.cap_grammar.specs.Bodies.{allocate_at, ask_at, body_at, cluster_info_at, finish_master_at, heartbeat_at, node_gone_at, queue_info_at, refresh_at, register_master_at, register_node_at, set_queue_state_at, submit_at}
+pub use Rattle.cap_grammar.specs.Fields.{all_at, byte_at, flag_at, flag_of_byte, number_at, pair_at, passing_at, text_at, times_at, ◌>>=◌}
+unfoldable pub use Rattle.cap_grammar.specs.Fields.{amount_at, amounts_at, counted_at}
 pub use Rattle.cap_grammar.specs.Laws.{node_with_two_amounts}
-pub use Rattle.cap_grammar.specs.Reading.{CarriesItems, GivesInMemory, head_at, request_at}
+pub use Rattle.cap_grammar.specs.Reading.{CarriesItems, GivesInMemory}
+unfoldable pub use Rattle.cap_grammar.specs.Reading.{head_at, request_at}
 pub use Rattle.cap_grammar.specs.Shown.{IsShownVector, shown, shown_amounts, shown_grant, shown_news}
-pub use Rattle.cap_grammar.specs.Spelling.{FitsAllocated, FitsAsk, FitsBeat, FitsByte, FitsEnd, FitsGrant, FitsListed, FitsNumber, FitsRefusal, FitsReply, FitsRequest, IsKind, IsNoRequest, IsOfKind, IsReply, IsRequest, allocate_bytes, ask, beat, byte, cluster_report, counted_list, end, fault_reply, flag, grant, kind_of, limit, list_bytes, queue_report, refusal_body, refusal_bytes, reply_body, reply_bytes, request_body, request_bytes, resource, text}
+pub use Rattle.cap_grammar.specs.Spelling.{FitsAllocated, FitsAsk, FitsBeat, FitsByte, FitsEnd, FitsGrant, FitsListed, FitsNumber, FitsRefusal, FitsReply, FitsRequest, IsKind, IsNoRequest, IsOfKind, IsReply, IsRequest, byte, counted_list, fault_reply, flag, kind_of, limit, refusal_body, refusal_bytes, reply_body, reply_bytes, request_body, request_bytes, text}
+unfoldable pub use Rattle.cap_grammar.specs.Spelling.{allocate_bytes, ask, beat, cluster_report, end, grant, list_bytes, queue_report, resource}
 pub use Rattle.cap_grammar.specs.Texts.{is_host, is_path, is_place, is_rack, is_user}
 pub use Rattle.cap_grammar.specs.Versions.{amounts_in, is_version}
 pub use Rattle.cap_grammar.specs.declared.fault.MessageFault.{MessageFault}

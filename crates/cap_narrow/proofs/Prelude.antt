@@ -33,11 +33,13 @@ pub use Rattle.cap_base.specs.declared.properties.fault.ConfigFault.{ConfigFault
 pub use Rattle.cap_base.specs.declared.properties.setting.Setting.{Setting}
 pub use Rattle.cap_base.specs.declared.properties.setting.Setting.TheVariants.{Capacity, MaximumApplications, MaximumCapacity, MaximumGpu, MaximumMemory, MaximumVcores, MinimumGpu, MinimumMemory, MinimumVcores, Queues, State, UserLimitFactor}
 pub use Rattle.cap_base.specs.declared.properties.value.Value.{Value}
-pub use Rattle.cap_base.specs.properties.Entries.{and_then, both_trimmed, entry_of, is_passed_over, is_printable, key_text, line_parts, read_after, read_lines, with_key, with_parts, with_value}
+pub use Rattle.cap_base.specs.properties.Entries.{and_then, both_trimmed, is_passed_over, is_printable, key_text, read_lines, with_key, with_parts, with_value}
+unfoldable pub use Rattle.cap_base.specs.properties.Entries.{entry_of, line_parts, read_after}
 pub use Rattle.cap_base.specs.properties.First.{first_fault, settings_in}
-pub use Rattle.cap_base.specs.properties.Keys.{cluster_settings, key_at, key_of, key_of_parts, key_on, key_or, last_dot, parts_at_last_dot, parts_round, path_of, prefix, queue_key, queue_settings, setting_named, spelling, takes}
+pub use Rattle.cap_base.specs.properties.Keys.{cluster_settings, key_of_parts, key_on, key_or, last_dot, parts_round, path_of, prefix, queue_settings, takes}
+unfoldable pub use Rattle.cap_base.specs.properties.Keys.{key_at, key_of, parts_at_last_dot, queue_key, setting_named, spelling}
 pub use Rattle.cap_base.specs.properties.Queues.{same_setting}
-pub use Rattle.cap_base.specs.properties.Rows.{settings_of}
+unfoldable pub use Rattle.cap_base.specs.properties.Rows.{settings_of}
 pub use Rattle.cap_base.specs.properties.Seen.{contains_bytes}
 pub use Rattle.cap_base.specs.properties.Tests.{cluster_entry, number_or}
 pub use Rattle.cap_base.specs.properties.Values.{value_of}
@@ -81,10 +83,12 @@ pub use Rattle.cap_narrow.specs.Gpus.{OpeningsHaveNone, RaisesToNoGpu, Refreshes
 pub use Rattle.cap_narrow.specs.Narrowing.{EndsInNone}
 pub use Rattle.cap_narrow.specs.Steps.{AsksNone, CallsAskNone, EventAsksNone, RunsNarrow, narrow_cluster_report, narrow_event, narrow_queue_report, narrow_reply, narrow_request}
 pub use Rattle.cap_narrow.specs.VectorLaws.{ExchangedNarrow, FitsNarrow, FullnessNarrow, MaximumNarrow, RoundingEndsInNone, RoundingNarrow, SameNarrow, TimesNarrow, UserLimitNarrow}
-pub use Rattle.cap_text.specs.Pieces.{from_first_word, is_space, to_last_word, trimmed_bytes}
+pub use Rattle.cap_text.specs.Pieces.{from_first_word, is_space, to_last_word}
+unfoldable pub use Rattle.cap_text.specs.Pieces.{trimmed_bytes}
 pub use Rattle.cap_vector.proofs.AmountLemmas.{length-less, length-plus}
 pub use Rattle.cap_vector.specs.AmountLaws.{amount-exchanged, amount-plus}
 pub use Rattle.cap_vector.specs.Fullness.{fractions, greatest_first, put_share, share_cmp, shares, shares_cmp}
 pub use Rattle.cap_vector.specs.Rounding.{raised_amount}
-pub use Rattle.cap_vector.specs.Vector.{amount, amount_max, amounts_exchanged, by_amount, is_within, is_zero, less, plus, zeros}
+pub use Rattle.cap_vector.specs.Vector.{amount, amount_max, amounts_exchanged, by_amount, is_within, is_zero, zeros}
+unfoldable pub use Rattle.cap_vector.specs.Vector.{less, plus}
 pub use Rattle.cap_vector.specs.declared.fullness.Share.{Share}

@@ -9,7 +9,8 @@ pub use Rattle.std.specs.Prelude.{IfSome, MatchBool, if◌then◌else◌, map, o
 pub use Rattle.cap_base.specs.Limits.{asks_max, news_max, resources}
 pub use Rattle.cap_frames.specs.Stream.{Tail}
 pub use Rattle.cap_grammar.specs.Shown.{IsShownVector}
-pub use Rattle.cap_grammar.specs.Spelling.{FitsAsk, FitsGrant, FitsReply, FitsRequest, IsNoRequest, IsOfKind, IsReply, IsRequest, allocate_bytes, ask, cluster_report, grant, kind_of, limit, list_bytes, queue_report, reply_body, request_body, resource}
+pub use Rattle.cap_grammar.specs.Spelling.{FitsAsk, FitsGrant, FitsReply, FitsRequest, IsNoRequest, IsOfKind, IsReply, IsRequest, kind_of, limit, reply_body, request_body}
+unfoldable pub use Rattle.cap_grammar.specs.Spelling.{allocate_bytes, ask, cluster_report, grant, list_bytes, queue_report, resource}
 pub use Rattle.cap_grammar.specs.Versions.{is_version}
 pub use Rattle.cap_grammar.specs.declared.head.Head.{Head}
 pub use Rattle.cap_model.specs.Asks.{Ask}

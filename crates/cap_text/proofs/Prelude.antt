@@ -10,5 +10,6 @@ pub use Rattle.std.proofs.lemmas.List.Sums.{AllPass-from_list_all, fails_before_
 pub use Rattle.std.specs.List.{All, list_all, position, position_or_len, prefix_len, slice_split, suffix_len}
 pub use Rattle.std.specs.Prelude.{not}
 pub use Rattle.std.specs.Str.Lines.{lines, lines_of_parts, strip_carriage_return}
-pub use Rattle.cap_text.specs.Numbers.{decimal, is_digit, is_number, number_of}
+pub use Rattle.cap_text.specs.Numbers.{decimal, is_digit, is_number}
+unfoldable pub use Rattle.cap_text.specs.Numbers.{number_of}
 pub use Rattle.cap_text.specs.Pieces.{IsCut, from_first_word, is_space, lacks, to_last_word}
