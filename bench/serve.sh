@@ -4,7 +4,8 @@
 # number and the longest time of changes of epochs in the last run, and those of a daemon with 127 connections that say nothing and one that calls; fails
 # where the daemon makes less than half of what engine_runs makes, where it makes with 4,096 less than 0.8 of what it makes with 131,072, or where a change takes
 # 5 ms or more. Then a cluster of 512 nodes, 64 leaf queues and 256 applications, in which masters ask and nodes end all that runs on them every 100 ms:
-# grants a second by 1, 2 and 4 workers, without a committer (lanes=0) and with lanes of so many places to one, and how long a ClusterInfo takes meanwhile;
+# grants a second by 1, 2 and 4 workers, without a committer (lanes=0) and with lanes of so many places to one, how long a ClusterInfo takes meanwhile, and for how
+# much of the time the cluster is held by copies;
 # fails where its 99th percentile with 4 workers and 64 places is above 60 ms. Then a busy cluster: 60 node managers that heartbeat, 60 masters that ask,
 # release and ask again, in queues at their maxima, and an operator, each as fast as it is answered, and all answers are held against each other: grants a
 # second and how many proposals are rejected for each that is made, by 1, 2 and 4 workers, directly and through 64 places; fails where 4 workers make fewer

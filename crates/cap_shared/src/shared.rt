@@ -16,7 +16,7 @@ use crate::faults::{CallFault, CommitFault, Fault};
 use crate::history::{Mark, View};
 use crate::passes::{Pass, Word};
 use crate::seat::{Naming, Seat};
-use crate::turnstile::{Place, Turnstile, lock_to_call, lock_to_schedule};
+use crate::turnstile::{Place, Turnstile};
 use crate::word_rule::{Compares, Handover, JournalRule};
 use atomic_table::Table;
 use bumpalo::Bump;
@@ -151,14 +151,15 @@ impl<J: Naming> Shared<J> {
     /// Holds the cluster for some calls, which then take the lock once.
     pub fn hold<R: Wait>(&self, rt: &R) -> Hold<'_, J> {
         let place = self.turnstile.line_up(rt);
-        let desk = lock_to_call(rt, &self.desk);
+        let desk = self.desk.lock(rt);
+        self.turnstile.has_entered();
         self.held(desk, Some(place))
     }
 
     /// The same for a thread that schedules. It waits for a few calls of others at most, however many threads call.
     pub fn hold_to_schedule<R: Wait>(&self, rt: &R) -> Hold<'_, J> {
         let place = self.turnstile.go_first(rt);
-        let desk = lock_to_schedule(rt, &self.desk);
+        let desk = self.turnstile.lock_to_schedule(rt, &self.desk);
         self.turnstile.has_gone(place);
         self.held(desk, None)
     }

@@ -6,16 +6,8 @@ use std::thread::yield_now;
 /// How often a thread that finds a place or the lock taken looks again before it sleeps until it is woken.
 const LOOKS: u32 = 100;
 
-/// How often one that calls and has its place looks whether the lock is free. All other calls wait behind it, and where more threads run than
-/// there are cores each look may take long.
-const CALL_LOOKS: u32 = 20;
-
-/// How often a thread that calls lets others run between two looks.
-const CALL_YIELDS: u32 = 1;
-
-/// How often one that schedules does. It looks less often, so that calls that wait are mostly made before the cluster is copied again: they
-/// take less time than a copy.
-const SCHEDULE_YIELDS: u32 = 2;
+/// Where so many calls wait, a thread that schedules sleeps at once.
+const MANY_CALLS: u64 = 4;
 
 /// How many calls take the lock at most while a thread that schedules waits for it.
 const PASSED_MAX: u64 = 16;
@@ -30,6 +22,8 @@ pub(crate) struct Place;
 pub(crate) struct Turnstile {
     callers: Mutex<Place>,
     schedulers: Mutex<Place>,
+    /// How many calls wait.
+    calls: AtomicU64,
     /// How many threads that schedule wait.
     waiting: AtomicU64,
     /// How many calls have passed them.
@@ -42,6 +36,7 @@ impl Turnstile {
         Turnstile {
             callers: Mutex::new(Place),
             schedulers: Mutex::new(Place),
+            calls: AtomicU64::new(0),
             waiting: AtomicU64::new(0),
             passed: AtomicU64::new(0),
         }
@@ -49,19 +44,58 @@ impl Turnstile {
 
     /// The place of a thread that calls, which takes the lock next and keeps its place until it has given the lock back.
     pub(crate) fn line_up<R: Wait>(&self, rt: &R) -> MutexGuard<'_, Place> {
-        let place = look_and_lock(rt, &self.callers, LOOKS, CALL_YIELDS);
+        self.calls.fetch_add(1, Ordering::SeqCst);
+        let place = self.caller(rt);
         if self.waiting.load(Ordering::SeqCst) > 0
             && self.passed.fetch_add(1, Ordering::SeqCst) >= PASSED_MAX
         {
-            drop(look_and_lock(rt, &self.schedulers, LOOKS, CALL_YIELDS));
+            drop(self.schedulers.lock(rt));
         }
         place
+    }
+
+    /// A thread that calls has taken the lock.
+    pub(crate) fn has_entered(&self) {
+        self.calls.fetch_sub(1, Ordering::SeqCst);
+    }
+
+    /// The place of a thread that calls. One that finds it taken first looks again a while, since the calls of others take less time than to
+    /// sleep and to be woken.
+    fn caller<R: Wait>(&self, rt: &R) -> MutexGuard<'_, Place> {
+        for _ in 0..LOOKS {
+            if let Some(place) = self.callers.try_lock() {
+                return place;
+            }
+            yield_now();
+        }
+        self.callers.lock(rt)
     }
 
     /// The place of a thread that schedules, which takes the lock next.
     pub(crate) fn go_first<R: Wait>(&self, rt: &R) -> MutexGuard<'_, Place> {
         self.waiting.fetch_add(1, Ordering::SeqCst);
-        lock_to_schedule(rt, &self.schedulers)
+        self.lock_to_schedule(rt, &self.schedulers)
+    }
+
+    /// Takes a place or the lock for a thread that schedules. One that finds it taken first looks again a while, since to sleep and to be
+    /// woken takes about as long as a copy, and nobody has the lock meanwhile. It lets others run twice in between, so that calls that wait are
+    /// mostly made first; and where many do, it sleeps, and leaves them the processors.
+    pub(crate) fn lock_to_schedule<'a, T, R: Wait>(
+        &self,
+        rt: &R,
+        lock: &'a Mutex<T>,
+    ) -> MutexGuard<'a, T> {
+        for _ in 0..LOOKS {
+            if let Some(guard) = lock.try_lock() {
+                return guard;
+            }
+            if self.calls.load(Ordering::SeqCst) >= MANY_CALLS {
+                break;
+            }
+            yield_now();
+            yield_now();
+        }
+        lock.lock(rt)
     }
 
     /// A thread that schedules has taken the lock.
@@ -70,34 +104,4 @@ impl Turnstile {
         self.passed.store(0, Ordering::SeqCst);
         drop(place);
     }
-}
-
-/// Takes the lock for a thread that calls and has its place.
-pub(crate) fn lock_to_call<'a, T, R: Wait>(rt: &R, lock: &'a Mutex<T>) -> MutexGuard<'a, T> {
-    look_and_lock(rt, lock, CALL_LOOKS, CALL_YIELDS)
-}
-
-/// Takes a place or the lock for a thread that schedules.
-pub(crate) fn lock_to_schedule<'a, T, R: Wait>(rt: &R, lock: &'a Mutex<T>) -> MutexGuard<'a, T> {
-    look_and_lock(rt, lock, LOOKS, SCHEDULE_YIELDS)
-}
-
-/// Takes a place or the lock. A thread that finds it taken first looks again so many times, and lets others run so often between two looks.
-/// To sleep and to be woken takes longer than most calls and about as long as a copy, and nobody holds a lock that is left to a thread until
-/// that has woken.
-fn look_and_lock<'a, T, R: Wait>(
-    rt: &R,
-    lock: &'a Mutex<T>,
-    looks: u32,
-    yields: u32,
-) -> MutexGuard<'a, T> {
-    for _ in 0..looks {
-        if let Some(guard) = lock.try_lock() {
-            return guard;
-        }
-        for _ in 0..yields {
-            yield_now();
-        }
-    }
-    lock.lock(rt)
 }

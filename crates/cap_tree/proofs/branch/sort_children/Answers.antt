@@ -15,9 +15,9 @@ loop-i-preserved g c =
     let is : kid_items kids k ≡ Some x = kid_item g.T.TreeItem.name kids k c.index-children-i.result x c.loop-i-test.true c.index-children-i.is c.top-child.ensures in
     elim c.if-waits.branch [
       | then-waits+in-Ok w ↦
-          let place = w.place_after-place.result in
+          let place = w.place_after-last.result in
           let at : child k ≡ Some x = passing waits (kid_items kids) k x is (sym c.waits.ensures ∙ w.if-waits.true) in
-          let put : IsPlaceAfter order child x c.loop-i.order.items place = subst (λ is. IsPlaceAfter order child x is place) w.deref.ensures.value w.place_after-place.ensures in
+          let put : IsPlaceAfter order child x c.loop-i.order.items place = subst (λ is. IsPlaceAfter order child x is place) w.deref.ensures.value w.place_after-last.ensures in
           rw (w.order-is, w.in-Ok.ensures.items) (put_in order g.met.T.Served.total child k c.loop-i.order.items c.loop-i.invariant x at (passing_differ order waits (kid_items kids) c.requires.apart) place put)
       | else-waits w ↦ rw w.order-is (left_out order g.met.T.Served.total child k c.loop-i.order.items c.loop-i.invariant (λ there. subst (HoldsOfItem (λ _. Unit {0})) (failing waits (kid_items kids) k x is (sym c.waits.ensures ∙ w.if-waits.false)) there))
     ]
