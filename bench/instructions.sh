@@ -11,7 +11,7 @@
 need_valgrind
 build_capsched
 
-# n ClusterInfos over 16 connections. Their outputs are kept for good, and of the sizes below none grows meanwhile: what that clears and copies is counted one a byte
+# n ClusterInfos over 16 connections. Outputs are kept for good, and callgrind counts one a byte as they grow: between the two sizes that are measured none grows
 cluster_info() {
   awk -v n="$1" 'BEGIN {
     for (c = 1; c <= 16; c++) print "open " c
