@@ -9,7 +9,7 @@ pub use Rattle.std.specs.Int.{from_be_bytes, to_be_bytes, w32}
 pub use Rattle.std.specs.Int.Digits.{number_from_digits}
 pub use Rattle.bytes.specs.Filled.{Filled}
 pub use Rattle.cap_frames.specs.Codec.{frame_layout}
-pub use Rattle.cap_frames.specs.History.{FaultIsLast, GivenIsFirst, History, IsAtFault, IsAtRest, IsReading}
+pub use Rattle.cap_frames.specs.History.{FaultIsLast, GivenIsFirst, History, IsAtFault, IsAtRest, IsReading, after_gift}
 pub use Rattle.cap_frames.specs.Stream.{FaultStays, HasOneReading, HasReading, IsBytes, IsFault, IsPayload, IsRest, IsStream, IsTail, StreamGoesOn, Tail, WrittenIsRead, fault, frame_of, frames_of, payload_max, rest, said_length, tail_bytes}
 pub use Rattle.cap_frames.specs.Waiting.{Accounts, AccountsUnless, BeginsWithFrame, IsKept, fed_of, given_of, history_of, last_bytes}
 pub use Rattle.cap_frames.specs.declared.framer.Framer.TheInside.{Inside}

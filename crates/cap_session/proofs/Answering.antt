@@ -17,7 +17,7 @@ one_refused payload is = subst (λ (x : List ℕ). Answers {K = resources} (payl
 pub is_answer : (o : OpenRequest) (head : Head) (kind : ℕ) (reply : Reply resources) → o.head ≡ head → kind ≡ kind_of o.request → reply_bytes head kind reply ≡ answer_bytes o reply
 is_answer o head kind reply h k = ap (λ (x : Head). reply_bytes x kind reply) (sym h) ∙ ap (λ (x : ℕ). reply_bytes o.head x reply) k
 
-pub one_replied : (o : OpenRequest) (reply : Reply resources) → SpellsAnswer (Some o) reply → Answers (o.payload ∷ []) (record { request = o.request; reply = reply } ∷ []) (frame_of (answer_bytes o reply))
+pub one_replied : (o : OpenRequest) (reply : Reply resources) → SpellsAnswer (o ∷ []) reply → Answers (o.payload ∷ []) (record { request = o.request; reply = reply } ∷ []) (frame_of (answer_bytes o reply))
 one_replied o reply is =
     subst (λ (x : List ℕ). Answers (o.payload ∷ []) (record { request = o.request; reply = reply } ∷ []) x) (append-nil (frame_of (answer_bytes o reply))) (replied {call = record { request = o.request; reply = reply }} is.0 is.1 nothing)
 
@@ -68,17 +68,17 @@ answered_fault s t payloads frames after old answers done calls sent unsent ende
     )
 
 -- an answer
-answers_one : (s t : SessionState) (o : OpenRequest) (reply : Reply resources) → Answers s.answered s.calls (all_answers s) → SpellsAnswer (Some o) reply → t ≡ with_answer s (Some o) reply → Answers t.answered t.calls (all_answers t)
-answers_one s t o reply old is now =
+answers_one : (s t : SessionState) (o : OpenRequest) (opens : List OpenRequest) (reply : Reply resources) → Answers s.answered s.calls (all_answers s) → SpellsAnswer (o ∷ opens) reply → t ≡ with_answer s (o ∷ opens) reply → Answers t.answered t.calls (all_answers t)
+answers_one s t o opens reply old is now =
     subst (λ (v : SessionState). Answers v.answered v.calls (all_answers v)) (sym now)
     (subst (λ (x : List ℕ). Answers (s.answered ++ o.payload ∷ []) (s.calls ++ record { request = o.request; reply = reply } ∷ []) x) (append_assoc s.sent s.unsent (frame_of (answer_bytes o reply))) (answers_more old (one_replied o reply is)))
 
--- the open request is answered; none is open after a length that no frame has
-pub answered_answer : (c : Option SessionCause) (s t : SessionState) (o : OpenRequest) (reply : Reply resources) → (c ≡ Some causes.BadLength → ⊥) → AnswersBy c s → SpellsAnswer (Some o) reply → t ≡ with_answer s (Some o) reply → AnswersBy c t
-answered_answer None s t o reply none old is now = answers_one s t o reply old is now
-answered_answer (Some causes.NoMemory) s t o reply none old is now = answers_one s t o reply old is now
-answered_answer (Some causes.WriteFault) s t o reply none old is now = answers_one s t o reply old is now
-answered_answer (Some causes.BadLength) s t o reply none old is now = absurd (none refl)
+-- an open request is answered; none is open after a length that no frame has
+pub answered_answer : (c : Option SessionCause) (s t : SessionState) (o : OpenRequest) (opens : List OpenRequest) (reply : Reply resources) → (c ≡ Some causes.BadLength → ⊥) → AnswersBy c s → SpellsAnswer (o ∷ opens) reply → t ≡ with_answer s (o ∷ opens) reply → AnswersBy c t
+answered_answer None s t o opens reply none old is now = answers_one s t o opens reply old is now
+answered_answer (Some causes.NoMemory) s t o opens reply none old is now = answers_one s t o opens reply old is now
+answered_answer (Some causes.WriteFault) s t o opens reply none old is now = answers_one s t o opens reply old is now
+answered_answer (Some causes.BadLength) s t o opens reply none old is now = absurd (none refl)
 
 -- the same was fed and answered
 same_answers : (c : Option SessionCause) (s t : SessionState) → t.fed ≡ s.fed → t.answered ≡ s.answered → t.calls ≡ s.calls → all_answers t ≡ all_answers s → AnswersBy c s → AnswersBy c t
@@ -98,3 +98,7 @@ answered_sent s sent a =
     let n = sent_count sent in
     same_until s.ended sent (after_sent s sent)
     (same_answers s.ended s (after_sent s sent) refl refl refl (append_assoc s.sent (take n s.unsent) (drop n s.unsent) ∙ ap (λ (x : List ℕ). s.sent ++ x) (take-append-drop n s.unsent)) a)
+
+-- other requests are open
+pub reopened : (s : SessionState) (opens : List OpenRequest) → HasAnswered s → HasAnswered (record s { opens = opens })
+reopened s opens a = same_answers s.ended s (record s { opens = opens }) refl refl refl refl a

@@ -1,5 +1,5 @@
 -- What was fed and answered since, whatever comes next.
-use Rattle.cap_session.proofs.Prelude.{◌≡◌, ℕ, List, [], ◌∷◌, ◌++◌, Some, refl, ap, ap₂, sym, ◌∙◌, subst, append_assoc, append-nil, resources, Reply, frame_of, Call, Answers, nothing, SessionState, OpenRequest, SpellsAnswer, Continues, all_answers, answer_bytes, with_answer}
+use Rattle.cap_session.proofs.Prelude.{◌≡◌, ℕ, List, [], ◌∷◌, ◌++◌, refl, ap, ap₂, sym, ◌∙◌, subst, append_assoc, append-nil, resources, Reply, frame_of, Call, Answers, nothing, SessionState, OpenRequest, SpellsAnswer, Continues, all_answers, answer_bytes, with_answer}
 use Rattle.cap_session.proofs.Answering.{answers_more, one_replied}
 
 pub continues_none : (s : SessionState) → Continues s s [] [] []
@@ -38,9 +38,9 @@ continues_bad s t payloads frames last answers fed answered calls sent unsent = 
   output = ap₂ (λ (x y : List ℕ). x ++ y) sent unsent ∙ sym (append_assoc s.sent s.unsent (frames ++ last));
 }
 
--- the open request was answered
-pub continues_answer : (s t : SessionState) (o : OpenRequest) (reply : Reply resources) → SpellsAnswer (Some o) reply → t ≡ with_answer s (Some o) reply → Continues s t [] (record { request = o.request; reply = reply } ∷ []) []
-continues_answer s t o reply spells now = subst (λ (x : SessionState). Continues s x [] (record { request = o.request; reply = reply } ∷ []) []) (sym now) (record {
+-- the first open request was answered
+pub continues_answer : (s t : SessionState) (o : OpenRequest) (opens : List OpenRequest) (reply : Reply resources) → SpellsAnswer (o ∷ opens) reply → t ≡ with_answer s (o ∷ opens) reply → Continues s t [] (record { request = o.request; reply = reply } ∷ []) []
+continues_answer s t o opens reply spells now = subst (λ (x : SessionState). Continues s x [] (record { request = o.request; reply = reply } ∷ []) []) (sym now) (record {
   payloads = o.payload ∷ [];
   frames = frame_of (answer_bytes o reply);
   fed = sym (append-nil s.fed);

@@ -1,6 +1,6 @@
 mod Logs
 mod Prelude
-mod ReadingAhead
+mod Reading
 pub mod Answering
 mod SessionSteps
 pub mod Continuing

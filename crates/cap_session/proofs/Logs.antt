@@ -1,5 +1,5 @@
 -- What is kept in logs.
-use Rattle.cap_session.proofs.Prelude.{◌≡◌, ℕ, List, [], ◌∷◌, ◌++◌, Some, Ok, Err, refl, sym, take, flat_map_more, Filled, Log, resources, Request, Head, Reply, ReplyHead, AnswerLog, calls_in, answered_in, calls_of, open_of, sent_in, IsHeadOf, ReadResult, PayloadLog, payloads_in}
+use Rattle.cap_session.proofs.Prelude.{◌≡◌, ℕ, List, [], ◌∷◌, ◌++◌, sym, take, flat_map_more, Filled, Log, resources, Reply, AnswerLog, calls_in, answered_in, calls_of, sent_in, ReadResult, payloads_in}
 
 pub answered_more : (log : AnswerLog) (l : Log Filled ReadResult) (r : Log (Reply resources) (Unit {0})) → answered_in (log ++ (l, r) ∷ []) ≡ answered_in log ++ payloads_in l.items
 answered_more log l r = sym (flat_map_more (λ (e : Log Filled ReadResult × Log (Reply resources) (Unit {0})). payloads_in e.0.items) [] log (l, r))
@@ -9,11 +9,3 @@ calls_more log l r = sym (flat_map_more (λ (e : Log Filled ReadResult × Log (R
 
 pub sent_more : (log : List (Filled × ℕ)) (b : Filled) (n : ℕ) → sent_in (log ++ (b, n) ∷ []) ≡ sent_in log ++ take n b.items
 sent_more log b n = sym (flat_map_more (λ (e : Filled × ℕ). take e.1 e.0.items) [] log (b, n))
-
--- the one payload that is open
-pub opened_is : (head : ReplyHead) (log : PayloadLog) → IsHeadOf (open_of (Some head) log) (Some head) → (p : Filled) × (x : Head × Request resources) × (log ≡ (p, Ok x) ∷ [])
-opened_is head [] h = absurd h
-opened_is head ((p, Err e) ∷ []) h = absurd h
-opened_is head ((p, Err e) ∷ (q ∷ log)) h = absurd h
-opened_is head ((p, Ok x) ∷ []) h = (p, x, refl)
-opened_is head ((p, Ok x) ∷ (q ∷ log)) h = absurd h

@@ -39,22 +39,11 @@ abbrev pub first_open : PayloadLog → OpenRequest
 first_open ((p, Ok x) ∷ []) = record { payload = p.items; head = x.0; request = x.1 }
 first_open opened = record { payload = []; head = record { version = 1; call_id = 0 }; request = requests.ClusterInfo }
 
--- the payload in a log with one
-abbrev pub first_payload : PayloadLog → List ℕ
-first_payload ((p, read) ∷ []) = p.items
-first_payload opened = []
-
 -- a log has one payload, which is a request of this head and kind
 pub record IsAsked (opened : PayloadLog) (head : ReplyHead) : Type 0 where
-  pub payload : Filled
   pub request : Request resources
-  pub one : opened ≡ (payload, Ok (head.of_request, request)) ∷ []
-  pub reads : IsRequest payload.items head.of_request request
+  pub opens : IsOpened opened (Ok (head.of_request, request))
   pub kind : head.kind ≡ kind_of request
-
--- a log has one payload, from which no request was read
-abbrev pub IsRefused : PayloadLog → MessageFault → Type 0
-IsRefused opened fault = IsOpened opened (Err fault)
 
 -- this head, kind and log are of an open request
 pub record HasParts (asked : OpenRequest) (head : ReplyHead) (opened : PayloadLog) : Type 0 where
@@ -64,8 +53,3 @@ pub record HasParts (asked : OpenRequest) (head : ReplyHead) (opened : PayloadLo
   pub head_is : asked.head ≡ head.of_request
   pub kind : head.kind ≡ kind_of asked.request
   pub reads : IsRequest asked.payload asked.head asked.request
-
--- this was read from a payload that was refused
-pub record HasRefused (payload : List ℕ) (opened : PayloadLog) (read : ReadResult) : Type 0 where
-  pub opens : IsOpened opened read
-  pub payload_is : payload ≡ opens.payload.items

@@ -1,8 +1,6 @@
-pub mod Counted
 pub mod Answers
-pub mod Session
 pub mod Asked
-pub mod Ahead
-pub mod Payloads
+pub mod Counted
 pub mod Kept
-pub mod Batch
+pub mod Reading
+pub mod Session

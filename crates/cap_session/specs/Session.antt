@@ -1,5 +1,5 @@
 -- A session, as far as anybody can see it, and what its calls do.
-use Rattle.std.specs.Prelude.{◌≡◌, ◌⊎◌, ℕ, ◌-◌, List, [], ◌∷◌, ◌++◌, length, take, drop, Option, Some, None}
+use Rattle.std.specs.Prelude.{◌≡◌, ◌⊎◌, ℕ, ◌-◌, List, [], ◌∷◌, ◌++◌, length, map, take, drop, Option, Some, None}
 use Rattle.cap_base.specs.Limits.{resources}
 use Rattle.cap_model.specs.declared.request.Request.{Request}
 use Rattle.cap_model.specs.News.{Reply}
@@ -23,12 +23,12 @@ pub record OpenRequest : Type 0 where
   pub head : Head
   pub request : Request resources
 
--- the bytes that were fed, the payloads that were answered, the request that is open, the calls, the bytes of answers that were
+-- the bytes that were fed, the payloads that were answered, the requests that are open, the calls, the bytes of answers that were
 -- written out and those that were not yet, and why it has ended
 pub record SessionState : Type 0 where
   pub fed : List ℕ
   pub answered : List (List ℕ)
-  pub open_request : Option OpenRequest
+  pub opens : List OpenRequest
   pub calls : List (Call resources)
   pub sent : List ℕ
   pub unsent : List ℕ
@@ -36,20 +36,22 @@ pub record SessionState : Type 0 where
 
 -- a session that was fed nothing
 abbrev pub new_session : SessionState
-new_session = record { fed = []; answered = []; open_request = None; calls = []; sent = []; unsent = []; ended = None }
+new_session = record { fed = []; answered = []; opens = []; calls = []; sent = []; unsent = []; ended = None }
 
--- the payload of the open request
-abbrev pub open_payload : Option OpenRequest → List (List ℕ)
-open_payload None = []
-open_payload (Some o) = o.payload ∷ []
+-- the payloads of open requests, and the requests
+abbrev pub open_payloads : List OpenRequest → List (List ℕ)
+open_payloads opens = map (λ o. o.payload) opens
+
+abbrev pub open_requests : List OpenRequest → List (Request resources)
+open_requests opens = map (λ o. o.request) opens
 
 -- all bytes of its answers
 abbrev pub all_answers : SessionState → List ℕ
 all_answers s = s.sent ++ s.unsent
 
--- the payloads that were answered, then that of the open request, then later ones, are those of the bytes that were fed
+-- the payloads that were answered, then those of the open requests, then later ones, are those of the bytes that were fed
 abbrev pub FollowsStream : SessionState → Type 0
-FollowsStream s = (later : List (List ℕ)) × (tail : Tail) × IsStream s.fed (s.answered ++ (open_payload s.open_request ++ later)) tail
+FollowsStream s = (later : List (List ℕ)) × (tail : Tail) × IsStream s.fed (s.answered ++ (open_payloads s.opens ++ later)) tail
 
 -- All bytes of its answers answer, by its calls, the payloads that were answered. Where it has ended for a length that no frame has, the
 -- bytes that were fed are these payloads and then such a length, and the fault reply 40 follows the answers.
@@ -106,34 +108,39 @@ EndsNow old new causes.WriteFault = ⊥
 -- answered; or the session has ended, before or now.
 abbrev pub NextGives : SessionState → SessionState → Next → Type 0
 NextGives old new (nexts.Request request) = (old.ended ≡ None) × (payloads : List (List ℕ)) × (frames : List ℕ) × (o : OpenRequest) × Answers {K = resources} payloads [] frames × (o.request ≡ request) × IsRequest o.payload o.head request
-    × (new ≡ record (after_bad_messages old payloads frames) { open_request = Some o })
+    × (new ≡ record (after_bad_messages old payloads frames) { opens = o ∷ [] })
 NextGives old new nexts.Need = (old.ended ≡ None) × (payloads : List (List ℕ)) × (frames : List ℕ) × Answers {K = resources} payloads [] frames × (new ≡ after_bad_messages old payloads frames)
     × ((left : List ℕ) × IsStream new.fed new.answered (rest left))
 NextGives old new (nexts.Ended cause) = ((old.ended ≡ Some cause) × (new ≡ old)) ⊎ ((old.ended ≡ None) × EndsNow old new cause)
 
+-- one more request is open, or nothing changes
+abbrev pub OpensNext : SessionState → SessionState → Option (Request resources) → Type 0
+OpensNext old new None = new ≡ old
+OpensNext old new (Some request) = (o : OpenRequest) × (o.request ≡ request) × IsRequest o.payload o.head request × (new ≡ record old { opens = old.opens ++ o ∷ [] })
+
 -- ---- an answer
 
--- a request is open, and the reply is a refusal or one of its kind
-abbrev pub MayAnswer : Option OpenRequest → Reply resources → Type 0
-MayAnswer None reply = ⊥
-MayAnswer (Some o) reply = IsOfKind (kind_of o.request) reply
+-- a request is open, and the reply is a refusal or one of the kind of the first that is
+abbrev pub MayAnswer : List OpenRequest → Reply resources → Type 0
+MayAnswer [] reply = ⊥
+MayAnswer (o ∷ opens) reply = IsOfKind (kind_of o.request) reply
 
 -- the bytes of a reply to an open request
 abbrev pub answer_bytes : OpenRequest → Reply resources → List ℕ
 answer_bytes o reply = reply_bytes o.head (kind_of o.request) reply
 
--- the open request was answered
-abbrev pub with_answer : SessionState → Option OpenRequest → Reply resources → SessionState
-with_answer s None reply = s
-with_answer s (Some o) reply = record s { answered = s.answered ++ o.payload ∷ []; open_request = None; calls = s.calls ++ record { request = o.request; reply = reply } ∷ []; unsent = s.unsent ++ frame_of (answer_bytes o reply) }
+-- the first of the open requests was answered
+abbrev pub with_answer : SessionState → List OpenRequest → Reply resources → SessionState
+with_answer s [] reply = s
+with_answer s (o ∷ opens) reply = record s { answered = s.answered ++ o.payload ∷ []; opens = opens; calls = s.calls ++ record { request = o.request; reply = reply } ∷ []; unsent = s.unsent ++ frame_of (answer_bytes o reply) }
 
 abbrev pub after_answer : SessionState → Reply resources → SessionState
-after_answer s reply = with_answer s s.open_request reply
+after_answer s reply = with_answer s s.opens reply
 
--- the payload of the open request spells it, and the answer spells the reply
-abbrev pub SpellsAnswer : Option OpenRequest → Reply resources → Type 0
-SpellsAnswer None reply = ⊥
-SpellsAnswer (Some o) reply = IsRequest o.payload o.head o.request × IsReply (answer_bytes o reply) o.head (kind_of o.request) reply
+-- the payload of the first open request spells it, and the answer spells the reply
+abbrev pub SpellsAnswer : List OpenRequest → Reply resources → Type 0
+SpellsAnswer [] reply = ⊥
+SpellsAnswer (o ∷ opens) reply = IsRequest o.payload o.head o.request × IsReply (answer_bytes o reply) o.head (kind_of o.request) reply
 
 -- ---- writing out
 

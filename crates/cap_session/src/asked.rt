@@ -1,10 +1,10 @@
-//! Payloads that were read: what is kept of one that is a request (`Asked`), and of one that is none (`Refused`).
-ghost use Rattle.std.specs.Prelude.{◌≡◌};
-ghost use Rattle.cap_session.specs.Asked.{IsAsked, IsRefused, first_open, first_payload, HasParts, HasRefused};
+//! What is kept of a payload that is a request until it is answered (`Asked`).
+ghost use Rattle.std.specs.Prelude.{◌≡◌, Ok};
+ghost use Rattle.cap_session.specs.Asked.{IsAsked, IsOpened, HasParts, first_open};
 
 use cap_base::RESOURCES;
 use cap_frames::Frame;
-use cap_grammar::{Head, MessageFault};
+use cap_grammar::{Head, MessageFault, kind};
 use cap_model::Request;
 use http_server::Log;
 use std::marker::Model;
@@ -42,11 +42,15 @@ impl Model for Asked {
 }
 
 impl Asked {
-    /// What is kept of a payload from which a request was read.
-    pub(crate) fn new(head: ReplyHead, opened: ReadPayload) -> Asked
-        requires { IsAsked opened.items head }
+    /// What is kept of a payload from which this head and this request were read.
+    pub(crate) fn new(head: Head, request: &Request<RESOURCES>, opened: ReadPayload) -> Asked
+        requires { IsOpened opened.items (Ok (head, request.now)) }
         ensures { result ≡ first_open opened.items }
     {
+        let head = ReplyHead {
+            of_request: head,
+            kind: kind(request),
+        };
         Asked { head, opened }
     }
 
@@ -56,42 +60,5 @@ impl Asked {
     {
         let Asked { head, opened } = self;
         (head, opened)
-    }
-}
-
-/// What is kept of a payload that is no request, or for which an allocation failed. Contracts see the payload.
-#[derive(Drop)]
-pub(crate) struct Refused {
-    fault: MessageFault,
-    // It exists for contracts alone.
-    opened: ReadPayload,
-}
-
-impl Model for Refused {
-    ghost use Rattle.std.specs.Prelude.{ℕ, List};
-    ghost use Rattle.cap_session.specs.Asked.{first_payload, IsRefused};
-
-    ghost Value = { List ℕ };
-
-    ghost view = { λ r. first_payload r.opened.items };
-
-    ghost invariant = { λ r. IsRefused r.opened.items r.fault };
-}
-
-impl Refused {
-    /// What is kept of a payload from which no request was read.
-    pub(crate) fn new(fault: MessageFault, opened: ReadPayload) -> Refused
-        requires { IsRefused opened.items fault }
-        ensures { result ≡ first_payload opened.items }
-    {
-        Refused { fault, opened }
-    }
-
-    /// What was read from the payload, and the payload for contracts.
-    pub(crate) fn parts(self) -> (ReadPayload, ReadResult)
-        ensures { HasRefused self result.0.items result.1 }
-    {
-        let Refused { fault, opened } = self;
-        (opened, Err(fault))
     }
 }

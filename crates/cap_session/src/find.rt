@@ -1,21 +1,26 @@
 //! What comes next in a stream (`find`), and the frame of a reply, written in place (`put_reply`).
-ghost use Rattle.std.specs.Prelude.{◌≡◌, ◌+◌, ◌++◌, OnOk, OnErr, true, false, ◌≤◌};
+ghost use Rattle.std.specs.Prelude.{◌≡◌, ◌*◌, ◌+◌, ◌++◌, OnOk, OnErr, [], length, true, false, ◌≤◌};
 ghost use Rattle.cap_base.specs.Limits.{resources};
+ghost use Rattle.cap_frames.specs.History.{IsReading};
 ghost use Rattle.cap_frames.specs.Stream.{frame_of};
 ghost use Rattle.cap_grammar.specs.Spelling.{IsKind, IsOfKind, IsReply, reply_bytes, fault_reply};
 ghost use Rattle.cap_grammar.specs.Versions.{is_version};
-ghost use Rattle.cap_session.specs.Kept.{Finds, EndsWith};
+ghost use Rattle.cap_session.specs.Reading.{Finds, EndsWith};
 
-use crate::asked::{ReadPayload, ReplyHead};
-use crate::payloads::Payloads;
+use crate::ahead::make_room;
+use crate::asked::{Asked, ReadPayload, ReplyHead};
+use crate::session::{Next, SessionCause};
 use bytes::BytesMut;
 use cap_base::RESOURCES;
-use cap_frames::{FrameFault, close_frame, open_frame};
+use cap_frames::{FrameFault, Framer, close_frame, open_frame};
 use cap_grammar::{
-    BAD_LENGTH, BAD_MESSAGE, FAULT_ROOM, MessageFault, REPLY_ROOM, kind, write_fault, write_reply,
+    BAD_LENGTH, BAD_MESSAGE, FAULT_ROOM, MessageFault, REPLY_ROOM, read_request, write_fault,
+    write_reply,
 };
-use cap_model::{NoMemory, OwnedReply, Request};
+use cap_model::{NoMemory, OwnedReply};
 use http_server::Log;
+use std::alloc::Global;
+use std::collections::VecDeque;
 
 /// The room that is made for the frame of a reply: its length, and what `write_reply` asks for.
 pub(crate) const FRAME_ROOM: usize = 4 + REPLY_ROOM;
@@ -23,63 +28,54 @@ pub(crate) const FRAME_ROOM: usize = 4 + REPLY_ROOM;
 /// The payloads that were answered, each with the reply to its request, if it is one. It exists for contracts alone.
 pub(crate) type Answered = Log<ReadPayload, Log<OwnedReply<RESOURCES>, ()>>;
 
-/// What comes next.
-pub(crate) enum FoundPayload {
-    Request(ReplyHead, ReadPayload, Request<RESOURCES>),
-    /// Less than a frame.
-    Rest,
-    /// A length that no frame has.
-    BadLength,
-    NoMemory,
-}
-
 /// Finds the next request, and makes room for the reply to it. Each payload before it that is none is answered so, and a length
 /// that no frame has too.
 pub(crate) fn find(
-    payloads: &mut Payloads,
+    alloc: Global,
+    framer: &mut Framer,
+    asked: &mut VecDeque<Asked>,
     unsent: &mut BytesMut,
     answered: &mut Answered,
-) -> FoundPayload
-    requires { payloads.old.is_spent ≡ false }
-    ensures { Finds payloads.old payloads.new unsent.old unsent.new
+) -> Next
+    requires { asked.old.items ≡ [] }
+    ensures { Finds framer.old framer.new asked.new.items unsent.old unsent.new
         answered.old.items answered.new.items result }
 {
     loop {
-        let (opened, read) = match payloads.next() {
-            Ok(Some(next)) => next,
-            Ok(None) => return FoundPayload::Rest,
+        let payload = match framer.next() {
+            Ok(Some(payload)) => payload,
+            Ok(None) => return Next::Need,
             Err(FrameFault::BadLength) => return end(unsent),
-            Err(FrameFault::NoMemory) => return FoundPayload::NoMemory,
+            Err(FrameFault::NoMemory) => return Next::Ended(SessionCause::NoMemory),
         };
+        let read = read_request(alloc, payload.as_slice());
+        let opened = Log::new().and(&payload, &read);
         match read {
             Ok((head, request)) => {
-                if unsent.reserve(FRAME_ROOM).is_err() {
-                    return FoundPayload::NoMemory;
+                if make_room(asked, unsent).is_err() {
+                    return Next::Ended(SessionCause::NoMemory);
                 }
-                let head = ReplyHead {
-                    of_request: head,
-                    kind: kind(&request),
-                };
-                return FoundPayload::Request(head, opened, request);
+                asked.push_back_reserved(Asked::new(head, &request, opened));
+                return Next::Request(request);
             }
             Err(MessageFault::Bad) => {
                 let Ok(()) = put_fault(BAD_MESSAGE, unsent) else {
-                    return FoundPayload::NoMemory;
+                    return Next::Ended(SessionCause::NoMemory);
                 };
                 *answered = answered.and(&opened, &Log::new());
             }
-            Err(MessageFault::NoMemory) => return FoundPayload::NoMemory,
+            Err(MessageFault::NoMemory) => return Next::Ended(SessionCause::NoMemory),
         }
     }
 }
 
 /// Answers a length that no frame has.
-fn end(unsent: &mut BytesMut) -> FoundPayload
+fn end(unsent: &mut BytesMut) -> Next
     ensures { EndsWith unsent.old.items unsent.new.items result }
 {
     match put_fault(BAD_LENGTH, unsent) {
-        Ok(()) => FoundPayload::BadLength,
-        Err(NoMemory) => FoundPayload::NoMemory,
+        Ok(()) => Next::Ended(SessionCause::BadLength),
+        Err(NoMemory) => Next::Ended(SessionCause::NoMemory),
     }
 }
 

@@ -1,20 +1,16 @@
 //! A session (`Session`): bytes are fed, requests handed out and answered, and the answers written out.
-ghost use Rattle.std.specs.Prelude.{◌≡◌, ◌<◌, ◌≤◌, ◌++◌, IfOk, IfErr, take, vec_capacity, None};
+ghost use Rattle.std.specs.Prelude.{◌≡◌, ◌<◌, ◌≤◌, ◌++◌, IfOk, [], take};
 ghost use Rattle.std.specs.Io.KnownBytes.{Appends};
 ghost use Rattle.cap_session.specs.Counted.{state_of, inner_of, CanCount, after_writes, sent_count, IsSentCount};
-ghost use Rattle.cap_session.specs.Answers.{Answers};
-ghost use Rattle.cap_session.specs.Batch.{HandsOut};
-ghost use Rattle.cap_session.specs.Kept.{answered_in, calls_of, sent_in, resting};
-ghost use Rattle.cap_session.specs.Ahead.{HasGiven, HasRequests};
-ghost use Rattle.cap_session.specs.Session.{new_session, FeedGives, NextGives, MayAnswer, after_answer, SpellsAnswer, after_sent, IsSession, bytes_unanswered};
+ghost use Rattle.cap_session.specs.Session.{new_session, FeedGives, NextGives, OpensNext, MayAnswer, after_answer, SpellsAnswer, after_sent, IsSession, bytes_unanswered};
 
-use crate::asked::{ReadPayload, ReplyHead};
-use crate::batch::Batch;
+use crate::ahead::read_all;
+use crate::asked::Asked;
 use crate::counted::{Counted, Sent};
-use crate::find::{Answered, FRAME_ROOM, FoundPayload, find, put_reply};
-use crate::payloads::{Ahead, Payloads};
+use crate::find::{Answered, find, put_reply};
 use bytes::BytesMut;
 use cap_base::RESOURCES;
+use cap_frames::Framer;
 use cap_model::{NoMemory, OwnedReply, Request};
 use http_server::Log;
 use std::alloc::Global;
@@ -53,28 +49,45 @@ pub enum Next {
     Ended(SessionCause),
 }
 
-/// One connection. Contracts see the bytes that it was fed, the payloads that it answered, the request that is open, its calls
+impl Next {
+    ghost use Rattle.cap_session.specs.Reading.{ended_by};
+
+    // Why the session has ended, if it has.
+    fn cause(&self) -> Option<SessionCause>
+        ensures { result ≡ ended_by self.now }
+    {
+        match self {
+            Next::Ended(cause) => Some(*cause),
+            Next::Request(_) | Next::Need => None,
+        }
+    }
+}
+
+/// One connection. Contracts see the bytes that it was fed, the payloads that it answered, the requests that are open, its calls
 /// (each a request with its reply), the bytes of its answers, written out or not yet, and why it has ended.
 pub struct Session {
-    pub(crate) payloads: Payloads,
-    pub(crate) unsent: BytesMut,
-    // What the reply to the open request repeats of it.
-    pub(crate) head: Option<ReplyHead>,
-    pub(crate) ended: Option<SessionCause>,
+    alloc: Global,
+    framer: Framer,
+    // What is kept of the requests that were read and are not answered: those that are open, and those read ahead.
+    asked: VecDeque<Asked>,
+    // The requests that were read ahead.
+    ahead: VecDeque<Request<RESOURCES>>,
+    unsent: BytesMut,
+    ended: Option<SessionCause>,
     // These exist for contracts alone.
-    pub(crate) opened: ReadPayload,
-    pub(crate) answered: Answered,
-    pub(crate) sent: Log<BytesMut, usize>,
+    answered: Answered,
+    sent: Log<BytesMut, usize>,
 }
 
 impl Drop for Session {
     fn drop(self) {
         let Session {
-            payloads: _,
+            alloc: _,
+            framer: _,
+            asked: _,
+            ahead: _,
             unsent: _,
-            head: _,
             ended: _,
-            opened: _,
             answered: _,
             sent: _,
         } = self;
@@ -97,15 +110,16 @@ impl Session {
     pub fn open(alloc: Global) -> Result<Session, NoMemory>
         ensures { IfOk result (λ s. s ≡ new_session) }
     {
-        let Ok(payloads) = Payloads::new(alloc) else {
+        let Ok(framer) = Framer::new(alloc) else {
             return Err(NoMemory);
         };
         Ok(Session {
-            payloads,
+            alloc,
+            framer,
+            asked: VecDeque::new(alloc),
+            ahead: VecDeque::new(alloc),
             unsent: BytesMut::new(alloc),
-            head: None,
             ended: None,
-            opened: Log::new(),
             answered: Log::new(),
             sent: Log::new(),
         })
@@ -120,7 +134,7 @@ impl Session {
         if let Some(cause) = self.ended {
             return Fed::Ended(cause);
         }
-        match self.payloads.feed(piece) {
+        match self.framer.feed(piece) {
             Ok(()) => Fed::Taken,
             Err(_) => {
                 self.ended = Some(SessionCause::NoMemory);
@@ -129,88 +143,46 @@ impl Session {
         }
     }
 
-    /// Reads the requests that were fed, up to a payload that is none, so that they can be handed out together. If an allocation fails, it
+    /// Reads the requests that were fed, up to a payload that is none, so that `next_ahead` can open them. If an allocation fails, it
     /// stops there.
     pub fn read_ahead(&mut self)
         ensures { self.new ≡ self.old }
     {
-        self.payloads.read_ahead();
+        if self.ended.is_some() {
+            return;
+        }
+        read_all(
+            self.alloc,
+            &mut self.framer,
+            &mut self.asked,
+            &mut self.ahead,
+            &mut self.unsent,
+        );
     }
 
-    /// The requests that were read ahead, all at once, with room for their replies, and an empty list for these, which has room too. If
-    /// there are none, or if an allocation fails, the session comes back as it was.
-    pub fn batch(
-        self,
-    ) -> Result<
-        (
-            Batch,
-            VecDeque<Request<RESOURCES>>,
-            Vec<OwnedReply<RESOURCES>>,
-        ),
-        Session,
-    >
-        requires none_open { self.open_request ≡ None }
-        requires goes_on { self.ended ≡ None }
-        ensures ok { IfOk result
-            (λ r. HandsOut self r.0 r.1.items r.2.items (vec_capacity r.2)) }
-        ensures err { IfErr result (λ s. s ≡ self) }
+    /// An empty list, with room for a reply to each request that was read ahead; if an allocation fails, for none.
+    pub fn room_for_replies(&self) -> Vec<OwnedReply<RESOURCES>>
+        ensures { result.items ≡ [] }
     {
-        let Session {
-            payloads,
-            mut unsent,
-            head: _,
-            ended: _,
-            opened: _,
-            answered,
-            sent,
-        } = self;
-        let (ahead, requests) = payloads.into_parts();
-        let count = ahead.asked.len();
-        if count == 0 || unsent.reserve(count * FRAME_ROOM).is_err() {
-            return Err(Session::resting(ahead, requests, unsent, answered, sent));
-        }
-        let Ok(replies) = Vec::with_capacity(ahead.alloc, count) else {
-            return Err(Session::resting(ahead, requests, unsent, answered, sent));
-        };
-        let batch = Batch {
-            ahead,
-            unsent,
-            answered,
-            sent,
-        };
-        Ok((batch, requests, replies))
+        let mut replies = Vec::new(self.alloc);
+        let _ = replies.reserve(self.ahead.len());
+        replies
     }
 
-    /// A session that has not ended and of which no request is open, of these parts.
-    pub(crate) fn resting(
-        ahead: Ahead,
-        requests: VecDeque<Request<RESOURCES>>,
-        unsent: BytesMut,
-        answered: Answered,
-        sent: Log<BytesMut, usize>,
-    ) -> Session
-        requires given { HasGiven (answered_in answered.items) ahead }
-        requires requests { HasRequests ahead requests.items }
-        requires answers { Answers (answered_in answered.items) (calls_of answered.items)
-            (sent_in sent.items ++ unsent.items) }
-        ensures { result ≡ resting ahead.framer.fed answered.items sent.items unsent.items }
+    /// Opens the next request that was read ahead, after those that are open. `None` where there is no such request, and then nothing
+    /// changes.
+    pub fn next_ahead(&mut self) -> Option<Request<RESOURCES>>
+        ensures opens { OpensNext self.old self.new result }
+        ensures session { IsSession self.new }
     {
-        Session {
-            payloads: Payloads::from_parts(ahead, requests),
-            unsent,
-            head: None,
-            ended: None,
-            opened: Log::new(),
-            answered,
-            sent,
-        }
+        self.ahead.pop_front()
     }
 
     /// The next request of the stream. It is open until `answer` answers it, and no other may be open. Each payload before it that
     /// is no request is answered with status 41. At a length that no frame has the session ends, with a last reply of status 40;
     /// it ends with no reply where an allocation fails, and every later call answers `Ended` with the same cause.
     pub fn next_request(&mut self) -> Next
-        requires { self.old.open_request ≡ None }
+        requires { self.old.opens ≡ [] }
         ensures gives { NextGives self.old self.new result }
         ensures session { IsSession self.new }
         ensures less { bytes_unanswered self.new ≤ bytes_unanswered self.old }
@@ -218,37 +190,33 @@ impl Session {
         if let Some(cause) = self.ended {
             return Next::Ended(cause);
         }
-        match find(&mut self.payloads, &mut self.unsent, &mut self.answered) {
-            FoundPayload::Request(head, opened, request) => {
-                self.head = Some(head);
-                self.opened = opened;
-                Next::Request(request)
-            }
-            FoundPayload::Rest => Next::Need,
-            FoundPayload::BadLength => {
-                self.ended = Some(SessionCause::BadLength);
-                Next::Ended(SessionCause::BadLength)
-            }
-            FoundPayload::NoMemory => {
-                self.ended = Some(SessionCause::NoMemory);
-                Next::Ended(SessionCause::NoMemory)
-            }
+        if let Some(request) = self.ahead.pop_front() {
+            return Next::Request(request);
         }
+        let next = find(
+            self.alloc,
+            &mut self.framer,
+            &mut self.asked,
+            &mut self.unsent,
+            &mut self.answered,
+        );
+        self.ended = next.cause();
+        next
     }
 
-    /// Answers the open request with a reply that is a refusal or one of its kind. It takes no memory and cannot fail.
+    /// Answers the first open request with a reply that is a refusal or one of its kind. It takes no memory and cannot fail.
     pub fn answer(&mut self, reply: &OwnedReply<RESOURCES>)
-        requires { MayAnswer self.old.open_request reply.now }
+        requires { MayAnswer self.old.opens reply.now }
         ensures answered { self.new ≡ after_answer self.old reply.now }
-        ensures spells { SpellsAnswer self.old.open_request reply.now }
+        ensures spells { SpellsAnswer self.old.opens reply.now }
         ensures less { bytes_unanswered self.new < bytes_unanswered self.old }
     {
-        let Some(head) = self.head else {
+        let Some(asked) = self.asked.pop_front() else {
             unreachable!()
         };
+        let (head, opened) = asked.parts();
         put_reply(head, reply, &mut self.unsent);
-        self.answered = self.answered.and(&self.opened, &Log::new().and(reply, &()));
-        self.head = None;
+        self.answered = self.answered.and(&opened, &Log::new().and(reply, &()));
     }
 
     /// The bytes of answers that were not written out yet.

@@ -1,30 +1,52 @@
-use Rattle.cap_session.proofs.Prelude.{◌≡◌, [], ◌∷◌, Err, ap, refl, subst, ◌∙◌, MessageFault, Bad, resources, IsNoRequest, ReadResult, IsReadFrom}
-use Rattle.cap_session.proofs.SessionSteps.{bad_none, bad_more, starved_after}
+use Rattle.cap_session.proofs.Prelude.{◌≡◌, [], ◌∷◌, ◌++◌, List, ℕ, Err, ap, refl, sym, subst, ◌∙◌, arith, length, MessageFault, Bad, FrameFault, resources, IsNoRequest, ReadResult, IsReadFrom, OpenRequest}
+use Rattle.cap_session.proofs.Reading.{opens, opens_request, opened_is, at_fault, has_room}
+use Rattle.cap_session.proofs.SessionSteps.{bad_none, bad_more, bad_given, fault_found}
 use Rattle.cap_session.proofs.find.find.Goals as goal
 
-pub loop-next-init : goal.loop-next-init
-loop-next-init c = bad_none c.args.payloads.now c.args.unsent.now.items c.args.answered.now.items c.requires
+pub loop-payload-init : goal.loop-payload-init
+loop-payload-init c = (bad_none c.args.framer.now c.args.unsent.now.items c.args.answered.now.items, c.requires)
 
-pub loop-next-preserved : goal.loop-next-preserved
-loop-next-preserved c =
-    let next = c.in-Ok-Some.next in
-    let (opened, gift) = rw c.in-Ok-Some.field-0-is at c.in-Ok-Some.ensures.gives in
-    let p = opened.payload in
-    let is : next.1 ≡ Err Bad = c.in-Err-Bad.is ∙ ap (λ (e : MessageFault). Err e) (rw c.in-Err-Bad.is at c.in-Err-Bad.field-0-is) in
-    let bad : IsNoRequest resources p.items = subst (λ (r : ReadResult). IsReadFrom p.items r) is opened.reads in
-    bad_more c.next.new.self c.put_fault.new.unsent.items c.and.result.items p Bad next.0 c.new.result c.loop-next.invariant gift bad c.in-Ok-put_fault.ensures.ok (opened.one ∙ ap (λ (r : ReadResult). (p, r) ∷ []) is) c.new.ensures c.and.ensures
+pub returns-in-Err-BadLength : goal.returns-in-Err-BadLength
+returns-in-Err-BadLength c =
+    let (all, none) = c.loop-payload.invariant in
+    let same = c.in-Err-BadLength.ensures.err in
+    let at = at_fault c.loop-payload.framer.is_spent c.loop-payload.framer c.next.result refl (c.in-Err-BadLength.is ∙ ap (λ (e : FrameFault). Err e) c.in-Err-BadLength.field-0-is) c.next.ensures.fault c.next.ensures.again in
+    fault_found c.next.new.self c.args.unsent.now c.end.new.unsent c.loop-payload.asked.items c.end.result all same.0 same.1 none at c.next.ensures.reading c.end.ensures
 
-pub returns-in-Err-NoMemory-read : goal.returns-in-Err-NoMemory-read
-returns-in-Err-NoMemory-read c =
-    let (opened, gift) = rw c.in-Ok-Some.field-0-is at c.in-Ok-Some.ensures.gives in
-    starved_after c.next.new.self opened.payload.items c.args.unsent.now c.loop-next.unsent c.loop-next.invariant gift refl c.next.ensures.reading
+pub loop-payload-preserved : goal.loop-payload-preserved
+loop-payload-preserved c =
+    let (all, none) = c.loop-payload.invariant in
+    let p = c.in-Ok-Some.payload in
+    let gift = rw c.in-Ok-Some.field-0-is at c.in-Ok-Some.ensures.frame in
+    let (one, reads) = opens p c.as_slice.result.now c.read_request-read.result c.new.result.items c.and-opened.result.items c.as_slice.ensures c.read_request-read.ensures.found c.read_request-read.ensures.bad c.new.ensures c.and-opened.ensures in
+    let is : c.read_request-read.result ≡ Err Bad = c.in-Err-Bad.is ∙ ap (λ (e : MessageFault). Err e) (rw c.in-Err-Bad.is at c.in-Err-Bad.field-0-is) in
+    let bad : IsNoRequest resources p.items = subst (λ (r : ReadResult). IsReadFrom p.items r) is reads in
+    (bad_more c.next.new.self c.put_fault.new.unsent.items c.and.result.items p Bad c.and-opened.result c.new-in-Err-Bad.result all gift bad c.in-Ok-put_fault.ensures.ok (one ∙ ap (λ (r : ReadResult). (p, r) ∷ []) is) c.new-in-Err-Bad.ensures c.and.ensures, none)
 
-pub returns-then-is_err : goal.returns-then-is_err
-returns-then-is_err c =
-    let (opened, gift) = rw c.in-Ok-Some.field-0-is at c.in-Ok-Some.ensures.gives in
-    starved_after c.next.new.self opened.payload.items c.args.unsent.now c.reserve.new.self c.loop-next.invariant gift c.reserve.ensures.items c.next.ensures.reading
+pub new-requires-in-Ok : goal.new-requires-in-Ok
+new-requires-in-Ok c =
+    let p = c.in-Ok-Some.payload in
+    opens_request p c.read_request-read.result c.and-opened.result.items c.in-Ok.head c.in-Ok.request (opens p c.as_slice.result.now c.read_request-read.result c.new.result.items c.and-opened.result.items c.as_slice.ensures c.read_request-read.ensures.found c.read_request-read.ensures.bad c.new.ensures c.and-opened.ensures) c.in-Ok.is
 
-pub returns-in_default : goal.returns-in_default
-returns-in_default c =
-    let (opened, gift) = rw c.in-Ok-Some.field-0-is at c.in-Ok-Some.ensures.gives in
-    starved_after c.next.new.self opened.payload.items c.args.unsent.now c.put_fault.new.unsent c.loop-next.invariant gift c.in_default.ensures.err c.next.ensures.reading
+pub returns-in-Ok : goal.returns-in-Ok
+returns-in-Ok c =
+    let (all, none) = c.loop-payload.invariant in
+    let p = c.in-Ok-Some.payload in
+    let o = c.new-in-Ok.result in
+    let gift = rw c.in-Ok-Some.field-0-is at c.in-Ok-Some.ensures.frame in
+    let (payload, request, read) = opened_is p c.read_request-read.result c.and-opened.result.items c.in-Ok.head c.in-Ok.request o (opens p c.as_slice.result.now c.read_request-read.result c.new.result.items c.and-opened.result.items c.as_slice.ensures c.read_request-read.ensures.found c.read_request-read.ensures.bad c.new.ensures c.and-opened.ensures) c.in-Ok.is c.new-in-Ok.ensures in
+    let (step, given) = bad_given c.next.new.self p.items all gift in
+    let asked = c.make_room.ensures.asked ∙ none in
+    let room = has_room c.make_room.result c.if-is_err.ensures.value c.make_room.ensures.made in
+    (
+      all.payloads,
+      all.frames,
+      o,
+      record { answers = step.answers; fed = step.fed; unsent = c.make_room.ensures.unsent ∙ step.unsent; answered = step.answered; calls = step.calls },
+      given ∙ ap (λ (x : List ℕ). c.args.framer.now.given ++ (all.payloads ++ x ∷ [])) (sym payload),
+      c.next.ensures.reading,
+      c.push_back_reserved.ensures.items ∙ ap (λ (x : List OpenRequest). x ++ o ∷ []) asked,
+      request,
+      read,
+      omega (arith, ap (λ (x : List OpenRequest). length x) asked, room.1),
+    )

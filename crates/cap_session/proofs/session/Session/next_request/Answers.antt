@@ -1,57 +1,57 @@
-use Rattle.cap_session.proofs.Prelude.{refl, ◌∙◌, ap, subst, inr, Some, SessionState, NextGives, IsSession, IsKept, state_inside, Inside}
-use Rattle.cap_session.specs.declared.session.SessionCause.TheVariants as causes
+use Rattle.cap_session.proofs.Prelude.{◌≡◌, [], ◌∷◌, ◌++◌, refl, ap, subst, ◌∙◌, append-nil, nil_from_length, Some, List, OpenRequest, SessionState, NextGives, IsSession, IsKept, nothing, opens_in, state_inside, Inside}
 use Rattle.cap_session.specs.declared.session.Next.TheVariants as nexts
-use Rattle.cap_session.proofs.SessionSteps.{promises, asks, rests, starves, faults}
+use Rattle.cap_session.proofs.SessionSteps.{promises, none_asked, next_opens, comes}
 use Rattle.cap_session.proofs.Unanswered.{next_fewer}
 use Rattle.cap_session.proofs.session.Session.next_request.Goals as goal
 
 pub returns-in-Some-clause-session : goal.returns-in-Some-clause-session
 returns-in-Some-clause-session c = subst IsSession c.self.view_is (promises c.self.inside c.self.invariant)
 
--- ---- a request
+-- ---- a request that was read ahead
 
-abbrev asking : goal.After-opened-1 → Inside
-asking c = record c.self.inside { payloads = c.find.new.payloads; unsent = c.find.new.unsent; answered = c.find.new.answered; head = Some c.in-Request.head; opened = c.in-Request.opened }
-
-asked : (c : goal.After-opened-1) → IsKept (asking c) × NextGives (state_inside c.self.inside) (state_inside (asking c)) (nexts.Request c.in-Request.request)
-asked c =
-    asks c.self.inside (asking c) c.in-Request.head c.in-Request.opened c.in-Request.request c.self.invariant c.in_default.is (ap (λ (s : SessionState). s.open_request) c.self.view_is ∙ c.requires) c.in-Request.ensures refl refl refl refl
+abbrev opening : goal.In-Some-pop_front → Inside
+opening c = record c.self.inside { ahead = c.pop_front.new.self }
 
 pub invariant_of-self : goal.invariant_of-self
-invariant_of-self c = (asked c).0
+invariant_of-self c = (next_opens c.self.inside (opening c) (Some c.in-Some-pop_front.request) c.self.invariant c.in-Some-pop_front.ensures.items refl).0
 
-pub returns-in-Request-clause-gives : goal.returns-in-Request-clause-gives
-returns-in-Request-clause-gives c = subst (λ (s : SessionState). NextGives s (state_inside (asking c)) (nexts.Request c.in-Request.request)) c.self.view_is (asked c).1
+pub returns-in-Some-pop_front-clause-gives : goal.returns-in-Some-pop_front-clause-gives
+returns-in-Some-pop_front-clause-gives c =
+    let (kept, (o, same, is, now)) = next_opens c.self.inside (opening c) (Some c.in-Some-pop_front.request) c.self.invariant c.in-Some-pop_front.ensures.items refl in
+    let none : opens_in c.self.inside ≡ [] = ap (λ (s : SessionState). s.opens) c.self.view_is ∙ c.requires in
+    let then = now ∙ ap (λ (x : List OpenRequest). record (state_inside c.self.inside) { opens = x ++ o ∷ [] }) none in
+    subst (λ (s : SessionState). NextGives s (state_inside (opening c)) (nexts.Request c.in-Some-pop_front.request)) c.self.view_is
+    (c.in_default.is, [], [], o, nothing, same, is, cc (then, append-nil (state_inside c.self.inside).answered, append-nil c.self.inside.unsent.items))
 
-pub returns-in-Request-clause-session : goal.returns-in-Request-clause-session
-returns-in-Request-clause-session c = promises (asking c) (asked c).0
+pub returns-in-Some-pop_front-clause-session : goal.returns-in-Some-pop_front-clause-session
+returns-in-Some-pop_front-clause-session c = promises (opening c) (invariant_of-self c)
 
-pub returns-in-Request-clause-less : goal.returns-in-Request-clause-less
-returns-in-Request-clause-less c = next_fewer c.args.self.now (state_inside (asking c)) (nexts.Request c.in-Request.request) (returns-in-Request-clause-gives c)
+-- ---- what was found
 
-pub invariant_of-self-in-Rest : goal.invariant_of-self-in-Rest
-invariant_of-self-in-Rest c =
-    (rests c.self.inside (record c.self.inside { payloads = c.find.new.payloads; unsent = c.find.new.unsent; answered = c.find.new.answered }) c.self.invariant c.in_default.is (ap (λ (s : SessionState). s.open_request) c.self.view_is ∙ c.requires) c.in-Rest.ensures refl refl refl refl).0
+abbrev found : goal.After-self-1 → Inside
+found c = record c.self.inside { framer = c.find-next.new.framer; asked = c.find-next.new.asked; ahead = c.pop_front.new.self; unsent = c.find-next.new.unsent; answered = c.find-next.new.answered; ended = c.cause-self-inside.result }
 
-pub invariant_of-self-in-BadLength : goal.invariant_of-self-in-BadLength
-invariant_of-self-in-BadLength c =
-    (faults c.self.inside (record c.self.inside { payloads = c.find.new.payloads; unsent = c.find.new.unsent; answered = c.find.new.answered; ended = Some causes.BadLength }) c.self.invariant c.in_default.is (ap (λ (s : SessionState). s.open_request) c.self.view_is ∙ c.requires) c.in-BadLength.ensures refl refl refl refl).0
+came : (c : goal.After-self-1) → IsKept (found c) × NextGives (state_inside c.self.inside) (state_inside (found c)) c.find-next.result
+came c =
+    let none : opens_in c.self.inside ≡ [] = ap (λ (s : SessionState). s.opens) c.self.view_is ∙ c.requires in
+    let empty = nil_from_length c.pop_front.new.self.items (cc (c.pop_front.new.self.ok.0, c.in_default-pop_front.ensures.cases.1)) in
+    let asked = none_asked c.self.inside c.self.invariant none (c.in_default-pop_front.ensures.items ∙ empty) in
+    comes c.self.inside (found c) c.find-next.result c.self.invariant c.in_default.is asked none c.find-next.ensures empty c.cause-self-inside.ensures refl
 
-pub returns-in-BadLength-clause-gives : goal.returns-in-BadLength-clause-gives
-returns-in-BadLength-clause-gives c =
-    let t : Inside = record c.self.inside { payloads = c.find.new.payloads; unsent = c.find.new.unsent; answered = c.find.new.answered; ended = Some causes.BadLength } in
-    let f = faults c.self.inside t c.self.invariant c.in_default.is (ap (λ (s : SessionState). s.open_request) c.self.view_is ∙ c.requires) c.in-BadLength.ensures refl refl refl refl in
-    subst (λ (s : SessionState). NextGives s (state_inside t) (nexts.Ended causes.BadLength)) c.self.view_is (inr (c.in_default.is, f.1))
+pub find-next-requires : goal.find-next-requires
+find-next-requires c =
+    let none : opens_in c.self.inside ≡ [] = ap (λ (s : SessionState). s.opens) c.self.view_is ∙ c.requires in
+    let empty = nil_from_length c.pop_front.new.self.items (cc (c.pop_front.new.self.ok.0, c.in_default-pop_front.ensures.cases.1)) in
+    none_asked c.self.inside c.self.invariant none (c.in_default-pop_front.ensures.items ∙ empty)
 
-pub invariant_of-self-in-NoMemory : goal.invariant_of-self-in-NoMemory
-invariant_of-self-in-NoMemory c =
-    (starves c.self.inside (record c.self.inside { payloads = c.find.new.payloads; unsent = c.find.new.unsent; answered = c.find.new.answered; ended = Some causes.NoMemory }) c.self.invariant c.in_default.is (ap (λ (s : SessionState). s.open_request) c.self.view_is ∙ c.requires) c.in-NoMemory.ensures refl refl refl refl).0
+pub invariant_of-self-2 : goal.invariant_of-self-2
+invariant_of-self-2 c = (came c).0
 
-pub returns-in-Rest-clause-session : goal.returns-in-Rest-clause-session
-returns-in-Rest-clause-session c = promises _ (invariant_of-self-in-Rest c)
+pub returns-clause-gives : goal.returns-clause-gives
+returns-clause-gives c = subst (λ (s : SessionState). NextGives s (state_inside (found c)) c.find-next.result) c.self.view_is (came c).1
 
-pub returns-in-BadLength-clause-session : goal.returns-in-BadLength-clause-session
-returns-in-BadLength-clause-session c = promises _ (invariant_of-self-in-BadLength c)
+pub returns-clause-session : goal.returns-clause-session
+returns-clause-session c = promises (found c) (came c).0
 
-pub returns-in-NoMemory-clause-session : goal.returns-in-NoMemory-clause-session
-returns-in-NoMemory-clause-session c = promises _ (invariant_of-self-in-NoMemory c)
+pub returns-clause-less : goal.returns-clause-less
+returns-clause-less c = next_fewer c.args.self.now (state_inside (found c)) c.find-next.result (returns-clause-gives c)
