@@ -1,7 +1,9 @@
 //! A connection, served from epoch to epoch (`ClientConnection`).
 ghost use Rattle.std.specs.Prelude.{◌≡◌, None, IfSome};
 ghost use Rattle.cap_session.specs.Session.{new_session};
-ghost use Rattle.cap_workers.specs.Sessions.{pending_request, IsServed};
+ghost use Rattle.std.specs.Option.{option_to_list};
+ghost use Rattle.cap_session.specs.Session.{open_requests};
+ghost use Rattle.cap_workers.specs.Sessions.{IsServed};
 
 use crate::poller::Poller;
 use crate::signal::EndSignal;
@@ -40,14 +42,14 @@ struct OpenSession {
     session: Session,
     pending: Option<Request<RESOURCES>>,
     ghost goes_on: { session.ended ≡ None },
-    ghost open: { pending ≡ pending_request session.open_request },
+    ghost open: { open_requests session.opens ≡ option_to_list pending },
 }
 
 impl OpenSession {
     /// Its session, and the open request.
     fn into_parts(self) -> (Session, Option<Request<RESOURCES>>)
         ensures goes_on { result.0.ended ≡ None }
-        ensures open { result.1 ≡ pending_request result.0.open_request }
+        ensures open { open_requests result.0.opens ≡ option_to_list result.1 }
     {
         let OpenSession { session, pending } = self;
         (session, pending)
@@ -334,7 +336,7 @@ fn serve_stream<'x, J: Naming, H: Wait + Clock>(
     signal: &'x EndSignal,
 ) -> SessionEnd
     requires goes_on { session.ended ≡ None }
-    requires pending { pending ≡ pending_request session.open_request }
+    requires pending { open_requests session.opens ≡ option_to_list pending }
     ensures { IsServed J.limit session result.session seat.old seat.new result.cause }
 {
     let mut reader = Counted::new(Incoming::new(stream, poller, signal));

@@ -6,57 +6,6 @@ use Rattle.cap_shared.specs.declared.history.NotedAnswer.TheVariants as answer
 use Rattle.cap_workers.specs.declared.sessions.Pause.TheVariants as pauses
 use Rattle.cap_workers.proofs.Receipts.{serves_none, serves_quiet, serves_then, serves_noted}
 
--- ---- a call
-
-pub none_open : (o : Option OpenRequest) → None ≡ pending_request o → o ≡ None
-none_open None is = refl
-none_open (Some o) is = absurd cc
-
--- a reply of the pending request's kind answers it
-pub may_answer : (o : Option OpenRequest) (q : Request resources) (r : Reply resources) → pending_request o ≡ Some q → IsOfKind (kind_of q) r → MayAnswer o r
-may_answer None q r is kind = absurd cc
-may_answer (Some o) q r is kind =
-    let same : q ≡ o.request = cc in
-    subst (λ (x : Request resources). IsOfKind (kind_of x) r) same kind
-
-open_is : (o : Option OpenRequest) (q : Request resources) → pending_request o ≡ Some q → (a : OpenRequest) × (o ≡ Some a) × (a.request ≡ q)
-open_is None q is = absurd cc
-open_is (Some a) q is = (a, refl, cc)
-
--- the pending call was made and answered, with the receipts that it has
-pub serves_call : (old new : SessionState) (s t : Sitting) (q : Request resources) (r : Reply resources) (ms : List Moment) → pending_request old.open_request ≡ Some q → SpellsAnswer old.open_request r → new ≡ after_answer old r → HaveReceipts (record { request = q; reply = r } ∷ []) ms → HasMore s t ms
-    → Serves old new s t [] [] × (new.open_request ≡ None) × (new.ended ≡ old.ended)
-serves_call old new s t q r ms is spells did receipts seat =
-    let one = open_is old.open_request q is in
-    let a = one.0 in
-    let now : new ≡ with_answer old (Some a) r = did ∙ ap (λ (o : Option OpenRequest). with_answer old o r) one.1 in
-    let spelled = subst (λ (o : Option OpenRequest). SpellsAnswer o r) one.1 spells in (
-      record {
-        more = [];
-        calls = record { request = q; reply = r } ∷ [];
-        moments = ms;
-        continues = subst (λ (p : Request resources). Continues old new [] (record { request = p; reply = r } ∷ []) []) one.2 (continues_answer old new a r spelled now);
-        receipts = receipts;
-        seat = seat ∙ ap (λ (x : List Moment). sitting s.seat (s.past ++ x)) (sym (append-nil ms));
-      },
-      ap (λ (x : SessionState). x.open_request) now,
-      ap (λ (x : SessionState). x.ended) now,
-    )
-
--- no call was pending
-pub calls_none : (limit : ℕ) (t : SessionState) (s : Sitting) → None ≡ pending_request t.open_request → IsCallMade limit t t s s None
-calls_none limit t s is = (serves_none t s, none_open t.open_request is, refl)
-
--- the journal was full
-pub sealed_is : {a b : SessionState} {s t : Sitting} (limit : ℕ) (new : SessionState) (u : Sitting) (q : Request resources) → Serves a b s t [] [] → b.ended ≡ None → IsCallMade limit b new t u (Some q) → IsSealed limit q a new s u
-sealed_is {a} {b} {s} {t} limit new u q x over (same, waits, (entries, full, noted)) = record {
-  entries = entries;
-  full = full;
-  serves = subst (λ (v : SessionState). Serves a v s u [] (Noted entries (answer.SealedCall q) ∷ [])) (sym same) (serves_noted u (Noted entries (answer.SealedCall q) ∷ []) x noted);
-  waits = waits;
-  goes_on = ap (λ (v : SessionState). v.ended) same ∙ over;
-}
-
 -- after what was answered before
 pub sealed_then : {a b c : SessionState} {s t u : Sitting} {limit : ℕ} {q : Request resources} → Serves a b s t [] [] → IsSealed limit q b c t u → IsSealed limit q a c s u
 sealed_then x y = record { entries = y.entries; full = y.full; serves = serves_then x y.serves; waits = y.waits; goes_on = y.goes_on }
@@ -64,39 +13,39 @@ sealed_then x y = record { entries = y.entries; full = y.full; serves = serves_t
 -- ---- what comes next
 
 -- payloads that are no requests were answered, and last came these bytes
-bad_then : (b new : SessionState) (t : Sitting) (payloads : List (List ℕ)) (frames last : List ℕ) (o : Option OpenRequest) (c : Option SessionCause) → Answers {K = resources} payloads [] frames
-    → new ≡ record b { answered = b.answered ++ payloads; unsent = b.unsent ++ (frames ++ last); open_request = o; ended = c } → Serves b new t t last []
+bad_then : (b new : SessionState) (t : Sitting) (payloads : List (List ℕ)) (frames last : List ℕ) (o : List OpenRequest) (c : Option SessionCause) → Answers {K = resources} payloads [] frames
+    → new ≡ record b { answered = b.answered ++ payloads; unsent = b.unsent ++ (frames ++ last); opens = o; ended = c } → Serves b new t t last []
 bad_then b new t payloads frames last o c answers now = serves_quiet b new t [] last
     (continues_bad b new payloads frames last answers (ap (λ (x : SessionState). x.fed) now) (ap (λ (x : SessionState). x.answered) now) (ap (λ (x : SessionState). x.calls) now) (ap (λ (x : SessionState). x.sent) now) (ap (λ (x : SessionState). x.unsent) now))
 
 -- and no more bytes
-bad_only : (b new : SessionState) (t : Sitting) (payloads : List (List ℕ)) (frames : List ℕ) (o : Option OpenRequest) (c : Option SessionCause) → Answers {K = resources} payloads [] frames → new ≡ record b { answered = b.answered ++ payloads; unsent = b.unsent ++ frames; open_request = o; ended = c } → Serves b new t t [] []
+bad_only : (b new : SessionState) (t : Sitting) (payloads : List (List ℕ)) (frames : List ℕ) (o : List OpenRequest) (c : Option SessionCause) → Answers {K = resources} payloads [] frames → new ≡ record b { answered = b.answered ++ payloads; unsent = b.unsent ++ frames; opens = o; ended = c } → Serves b new t t [] []
 bad_only b new t payloads frames o c answers now =
-    bad_then b new t payloads frames [] o c answers (now ∙ ap (λ (x : List ℕ). record b { answered = b.answered ++ payloads; unsent = b.unsent ++ x; open_request = o; ended = c }) (sym (append-nil frames)))
+    bad_then b new t payloads frames [] o c answers (now ∙ ap (λ (x : List ℕ). record b { answered = b.answered ++ payloads; unsent = b.unsent ++ x; opens = o; ended = c }) (sym (append-nil frames)))
 
-pub next_need : {a b : SessionState} {s t : Sitting} (new : SessionState) → Serves a b s t [] [] → b.open_request ≡ None → NextGives b new nexts.Need → ServesAll a new s t
+pub next_need : {a b : SessionState} {s t : Sitting} (new : SessionState) → Serves a b s t [] [] → b.opens ≡ [] → NextGives b new nexts.Need → ServesAll a new s t
 next_need {a} {b} {s} {t} new x none (over, payloads, frames, answers, now, at) = record {
-  serves = serves_then x (bad_only b new t payloads frames b.open_request b.ended answers now);
-  at_rest = record { left = at.0; stream = at.1; none_open = ap (λ (v : SessionState). v.open_request) now ∙ none; goes_on = ap (λ (v : SessionState). v.ended) now ∙ over };
+  serves = serves_then x (bad_only b new t payloads frames b.opens b.ended answers now);
+  at_rest = record { left = at.0; stream = at.1; none_open = ap (λ (v : SessionState). v.opens) now ∙ none; goes_on = ap (λ (v : SessionState). v.ended) now ∙ over };
 }
 
 ends_now : {a b : SessionState} {s t : Sitting} (limit : ℕ) (new : SessionState) (cause : SessionCause) → Serves a b s t [] [] → EndsNow b new cause → IsPause limit a new s t (pauses.Ended cause)
 ends_now {a} {b} {s} {t} limit new causes.BadLength x (payloads, frames, answers, now, at) = record {
   left = at.0;
   stream = at.1;
-  serves = serves_then x (bad_then b new t payloads frames (frame_of (fault_reply 40)) b.open_request (Some causes.BadLength) answers now);
+  serves = serves_then x (bad_then b new t payloads frames (frame_of (fault_reply 40)) b.opens (Some causes.BadLength) answers now);
 }
-ends_now {a} {b} {s} {t} limit new causes.NoMemory x (payloads, frames, answers, now) = serves_then x (bad_only b new t payloads frames b.open_request (Some causes.NoMemory) answers now)
+ends_now {a} {b} {s} {t} limit new causes.NoMemory x (payloads, frames, answers, now) = serves_then x (bad_only b new t payloads frames b.opens (Some causes.NoMemory) answers now)
 ends_now {a} {b} {s} {t} limit new causes.WriteFault x ends = absurd ends
 
 pub next_ended : {a b : SessionState} {s t : Sitting} (limit : ℕ) (new : SessionState) (cause : SessionCause) → Serves a b s t [] [] → b.ended ≡ None → NextGives b new (nexts.Ended cause) → IsPause limit a new s t (pauses.Ended cause)
 next_ended limit new cause x over (inl (was, same)) = absurd cc
 next_ended limit new cause x over (inr (was, ends)) = ends_now limit new cause x ends
 
-pub next_request_is : {a b : SessionState} {s t : Sitting} (new : SessionState) (q : Request resources) → Serves a b s t [] [] → NextGives b new (nexts.Request q) → Serves a new s t [] [] × (Some q ≡ pending_request new.open_request) × (new.ended ≡ b.ended)
+pub next_request_is : {a b : SessionState} {s t : Sitting} (new : SessionState) (q : Request resources) → Serves a b s t [] [] → NextGives b new (nexts.Request q) → Serves a new s t [] [] × (open_requests new.opens ≡ q ∷ []) × (new.ended ≡ b.ended)
 next_request_is {a} {b} {s} {t} new q x (over, payloads, frames, o, answers, same, spells, now) = (
-  serves_then x (bad_only b new t payloads frames (Some o) b.ended answers now),
-  ap Some (sym same) ∙ sym (ap (λ (v : SessionState). pending_request v.open_request) now),
+  serves_then x (bad_only b new t payloads frames (o ∷ []) b.ended answers now),
+  ap (λ (v : SessionState). open_requests v.opens) now ∙ ap (λ (p : Request resources). p ∷ []) same,
   ap (λ (v : SessionState). v.ended) now,
 )
 

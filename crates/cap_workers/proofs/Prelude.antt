@@ -1,8 +1,9 @@
 -- What the proofs here take from elsewhere.
 pub use Rattle.std.proofs.Common.{Err, List, None, Ok, Option, Result, Some, [], ap, append-nil, append_assoc, ap₂, arith, drop, inl, inr, length, length-append, min, refl, slice_index_or, subst, suc, sym, take, vec_capacity, zero, ℕ, ◌++◌, ◌+◌, ◌-◌, ◌<◌, ◌^◌, ◌∙◌, ◌∷◌, ◌≡◌, ◌≢◌, ◌≤◌}
-pub use Rattle.std.proofs.Math.Seq.{drop-length, take-length}
+pub use Rattle.std.proofs.Math.Seq.{drop-length, take-append_seam, take-length}
 pub use Rattle.std.proofs.lemmas.List.{length-map, map-append, take-append-drop}
 pub use Rattle.std.specs.Io.KnownBytes.{Appends, Consumes}
+pub use Rattle.std.specs.Option.{option_to_list}
 pub use Rattle.std.specs.Prelude.{MatchResult}
 pub use Rattle.cap_base.specs.Limits.{resources}
 pub use Rattle.cap_copy.specs.Snapshot.{Seen, sight_in}
@@ -17,11 +18,9 @@ pub use Rattle.cap_model.specs.Sight.{Sight}
 pub use Rattle.cap_model.specs.declared.proposal.Verdict.{Verdict}
 pub use Rattle.cap_model.specs.declared.request.Request.{Request}
 pub use Rattle.cap_session.proofs.Continuing.{continues_answer, continues_bad, continues_fed, continues_none, continues_then}
-pub use Rattle.cap_session.specs.Ahead.{asked_requests}
 pub use Rattle.cap_session.specs.Answers.{Answers, Call}
-pub use Rattle.cap_session.specs.Batch.{BatchState, IsFirstOf, MayAnswerFirst, SpellsFirst, after_first, with_first_open}
 pub use Rattle.cap_session.specs.Counted.{CanCount, StreamState, inner_of, sent_count, state_of}
-pub use Rattle.cap_session.specs.Session.{Continues, EndsNow, FeedGives, MayAnswer, NextGives, OpenRequest, SessionState, SpellsAnswer, after_answer, after_sent, all_answers, with_answer}
+pub use Rattle.cap_session.specs.Session.{Continues, EndsNow, FeedGives, MayAnswer, NextGives, OpenRequest, OpensNext, SessionState, SpellsAnswer, after_answer, after_sent, all_answers, open_requests, with_answer}
 pub use Rattle.cap_session.specs.declared.counted.Sent.{Sent}
 pub use Rattle.cap_session.specs.declared.session.Next.{Next}
 pub use Rattle.cap_session.specs.declared.session.SessionCause.{SessionCause}
@@ -36,7 +35,7 @@ pub use Rattle.cap_shared.specs.declared.history.Moment.TheVariants.{Entered, No
 pub use Rattle.cap_shared.specs.declared.history.Sitting.{Sitting}
 pub use Rattle.cap_sights.proofs.Alike.{same_choice}
 pub use Rattle.cap_workers.specs.Batches.{AnsweredAll, AreOfKind, CallsMade, IsAnsweredBy, IsBatchMade, IsCalled, asked, none_asked, replies_of, requests_of}
-pub use Rattle.cap_workers.specs.Sessions.{GoesOn, HaveReceipts, IsAtRest, IsCallMade, IsLost, IsPause, IsRead, IsRound, IsSealed, IsServed, IsWritten, IsWrittenOut, ReadsOn, Serves, ServesAll, ServesToFault, after_reads, end_of, made, none_made, pending_request, reader_at, starved, writer_at}
+pub use Rattle.cap_workers.specs.Sessions.{GoesOn, HaveReceipts, IsAtRest, IsLost, IsPause, IsRead, IsRound, IsSealed, IsServed, IsWritten, IsWrittenOut, ReadsOn, Serves, ServesAll, ServesToFault, after_reads, end_of, made, none_made, reader_at, starved, writer_at}
 pub use Rattle.cap_workers.specs.Worker.{Chooses, IsCommitted, end_by}
 pub use Rattle.cap_workers.specs.declared.sessions.EndCause.{EndCause}
 pub use Rattle.cap_workers.specs.declared.sessions.Pause.{Pause}

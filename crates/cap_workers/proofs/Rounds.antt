@@ -17,7 +17,7 @@ pub went_on : (limit : ℕ) (old mid new : SessionState) (s t : Sitting) (sent :
 went_on limit old mid new s t (sents.All n) None more x is fed =
     let m = after_sent mid (sents.All n) in
     let now : new ≡ record m { fed = m.fed ++ more } = is ∙ ap (λ (f : List ℕ). record m { fed = f }) fed in
-    (serves_then (serves_sent (sents.All n) x.serves) (serves_quiet m new t more [] (continues_fed m new more now)), ap (λ (v : SessionState). v.open_request) is ∙ x.at_rest.none_open, ap (λ (v : SessionState). v.ended) is ∙ x.at_rest.goes_on)
+    (serves_then (serves_sent (sents.All n) x.serves) (serves_quiet m new t more [] (continues_fed m new more now)), ap (λ (v : SessionState). v.opens) is ∙ x.at_rest.none_open, ap (λ (v : SessionState). v.ended) is ∙ x.at_rest.goes_on)
 went_on limit old mid new s t (sents.All n) (Some ends.InputEnded) more x is fed = all_sent new n x is
 went_on limit old mid new s t (sents.All n) (Some ends.Quiet) more x is fed = all_sent new n x is
 went_on limit old mid new s t (sents.All n) (Some ends.ReadFault) more x is fed = all_sent new n x is

@@ -5,15 +5,15 @@ use Rattle.cap_model.specs.declared.request.Request.{Request}
 use Rattle.cap_model.specs.News.{Reply}
 use Rattle.cap_grammar.specs.Spelling.{IsOfKind, kind_of}
 use Rattle.cap_session.specs.Answers.{Call}
-use Rattle.cap_session.specs.Batch.{BatchState}
-use Rattle.cap_session.specs.Ahead.{asked_requests}
-use Rattle.cap_session.specs.Session.{SessionState, OpenRequest, Continues}
+use Rattle.cap_session.specs.Session.{SessionState, OpenRequest, open_requests, Continues}
 use Rattle.cap_shared.specs.Calls.{HasMore, IsSealedCall}
 use Rattle.cap_shared.specs.declared.entry.Entry.{Entry}
 use Rattle.cap_shared.specs.declared.history.NotedAnswer.TheVariants as answer
 use Rattle.cap_shared.specs.declared.history.Moment.{Moment}
 use Rattle.cap_shared.specs.declared.history.Moment.TheVariants.{Noted}
 use Rattle.cap_shared.specs.declared.history.Sitting.{Sitting}
+use Rattle.cap_workers.specs.declared.batches.Called.{Called}
+use Rattle.cap_workers.specs.declared.batches.Called.TheVariants as called
 use Rattle.cap_workers.specs.Sessions.{HaveReceipts, Serves, IsSealed}
 
 abbrev pub requests_of : List (Call resources) → List (Request resources)
@@ -27,15 +27,16 @@ pub data AreOfKind : List (Call resources) → Type 0 where
   none_asked : AreOfKind []
   asked : {call : Call resources} {calls : List (Call resources)} → IsOfKind (kind_of call.request) call.reply → AreOfKind calls → AreOfKind (call ∷ calls)
 
--- The first of these requests were called, with these replies, and the others are left. The seat has a receipt for each of these calls that found
--- memory, and was answered nothing else but the note.
-pub record CallsMade (all left : List (Request resources)) (replies : List (Reply resources)) (before after : Sitting) (note : List Moment) : Type 0 where
+-- The first open requests were called, with these replies, and then these are open. The seat has a receipt for each of these calls that found
+-- memory, and was answered nothing else but the note. Nothing else of the session changes.
+pub record CallsMade (old new : SessionState) (left : List (Request resources)) (replies : List (Reply resources)) (before after : Sitting) (note : List Moment) : Type 0 where
   pub calls : List (Call resources)
   pub moments : List Moment
   pub receipts : HaveReceipts calls moments
   pub kinds : AreOfKind calls
-  pub requests : all ≡ requests_of calls ++ left
+  pub requests : open_requests new.opens ≡ requests_of calls ++ left
   pub replies_are : replies ≡ replies_of calls
+  pub same : new ≡ record old { opens = new.opens }
   pub seat : HasMore before after (moments ++ note)
 
 -- the request was called, with this reply, or the journal was full
@@ -44,27 +45,26 @@ IsCalled limit request before after None = IsSealedCall request limit before aft
 IsCalled limit request before after (Some reply) = (moments : List Moment) × HaveReceipts (record { request = request; reply = reply } ∷ []) moments × IsOfKind (kind_of request) reply × HasMore before after moments
 
 -- all were called, or the journal was full for one of them
-abbrev pub CallsAll : ℕ → List (Request resources) → List (Request resources) → List (Reply resources) → Sitting → Sitting → Option (Request resources) → Type 0
-CallsAll limit all left replies before after None = (left ≡ []) × CallsMade all left replies before after []
-CallsAll limit all left replies before after (Some back) = (entries : List Entry) × (length entries ≡ limit) × CallsMade all (back ∷ left) replies before after (Noted entries (answer.SealedCall back) ∷ [])
+abbrev pub CallsAll : ℕ → SessionState → SessionState → List (Reply resources) → Sitting → Sitting → Called → Type 0
+CallsAll limit old new replies before after (called.Made reply) = CallsMade old new [] (replies ++ reply ∷ []) before after []
+CallsAll limit old new replies before after (called.Sealed back) = (entries : List Entry) × (length entries ≡ limit) × CallsMade old new (back ∷ []) replies before after (Noted entries (answer.SealedCall back) ∷ [])
 
--- these calls are of the first requests, with these replies
+-- these calls are of the first open requests, with these replies
 pub record IsAnsweredBy (opens : List OpenRequest) (replies : List (Reply resources)) (calls : List (Call resources)) : Type 0 where
   pub left : List (Request resources)
   pub kinds : AreOfKind calls
-  pub requests : asked_requests opens ≡ requests_of calls ++ left
+  pub requests : open_requests opens ≡ requests_of calls ++ left
   pub replies_are : replies ≡ replies_of calls
 
 -- the payloads of these calls were answered
-pub record AnsweredAll (old new : BatchState) (calls : List (Call resources)) : Type 0 where
-  pub continues : Continues old.session new.session [] calls []
-  pub left : asked_requests old.asked ≡ requests_of calls ++ asked_requests new.asked
-  pub open_same : new.session.open_request ≡ old.session.open_request
-  pub ended_same : new.session.ended ≡ old.session.ended
-  pub fed_same : new.session.fed ≡ old.session.fed
-  pub sent_same : new.session.sent ≡ old.session.sent
+pub record AnsweredAll (old new : SessionState) (calls : List (Call resources)) : Type 0 where
+  pub continues : Continues old new [] calls []
+  pub left : open_requests old.opens ≡ requests_of calls ++ open_requests new.opens
+  pub ended_same : new.ended ≡ old.ended
+  pub fed_same : new.fed ≡ old.fed
+  pub sent_same : new.sent ≡ old.sent
 
--- all requests that were read ahead were answered, or the journal was full for one of them
+-- the open request and those that were read ahead were answered, or the journal was full for one of them
 abbrev pub IsBatchMade : ℕ → SessionState → SessionState → Sitting → Sitting → Option (Request resources) → Type 0
-IsBatchMade limit old new before after None = Serves old new before after [] [] × (new.open_request ≡ None) × (new.ended ≡ None)
+IsBatchMade limit old new before after None = Serves old new before after [] [] × (new.opens ≡ []) × (new.ended ≡ None)
 IsBatchMade limit old new before after (Some back) = IsSealed limit back old new before after

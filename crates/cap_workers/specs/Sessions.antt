@@ -9,7 +9,7 @@ use Rattle.cap_model.specs.Events.{is_no_memory}
 use Rattle.cap_frames.specs.Stream.{rest, fault, IsStream}
 use Rattle.cap_session.specs.Answers.{Call, tail_answer}
 use Rattle.cap_session.specs.Counted.{StreamState, one_failure, one_quiet, one_end}
-use Rattle.cap_session.specs.Session.{SessionState, OpenRequest, Continues}
+use Rattle.cap_session.specs.Session.{SessionState, open_requests, Continues}
 use Rattle.cap_session.specs.declared.session.SessionCause.TheVariants as causes
 use Rattle.cap_session.specs.declared.counted.Sent.{Sent}
 use Rattle.cap_session.specs.declared.counted.Sent.TheVariants as sents
@@ -24,11 +24,6 @@ use Rattle.cap_workers.specs.declared.sessions.EndCause.{EndCause}
 use Rattle.cap_workers.specs.declared.sessions.EndCause.TheVariants as ends
 use Rattle.cap_workers.specs.declared.sessions.Pause.{Pause}
 use Rattle.cap_workers.specs.declared.sessions.Pause.TheVariants as pauses
-
--- the open request
-abbrev pub pending_request : Option OpenRequest → Option (Request resources)
-pending_request None = None
-pending_request (Some o) = Some o.request
 
 -- ---- what was answered
 
@@ -52,7 +47,7 @@ pub record Serves (old new : SessionState) (before after : Sitting) (last : List
 pub record IsAtRest (s : SessionState) : Type 0 where
   pub left : List ℕ
   pub stream : IsStream s.fed s.answered (rest left)
-  pub none_open : s.open_request ≡ None
+  pub none_open : s.opens ≡ []
   pub goes_on : s.ended ≡ None
 
 -- all payloads were answered
@@ -71,7 +66,7 @@ pub record IsSealed (limit : ℕ) (request : Request resources) (old new : Sessi
   pub entries : List Entry
   pub full : length entries ≡ limit
   pub serves : Serves old new before after [] (Noted entries (answer.SealedCall request) ∷ [])
-  pub waits : pending_request new.open_request ≡ Some request
+  pub waits : open_requests new.opens ≡ request ∷ []
   pub goes_on : new.ended ≡ None
 
 -- all payloads were answered before a request for which the journal was full
@@ -91,7 +86,7 @@ IsServed limit old new before after ends.NoMemory = Serves old new before after 
 
 -- a round of serving: the session is served on, or it was served so
 abbrev pub IsRound : ℕ → SessionState → SessionState → Sitting → Sitting → Option EndCause → Type 0
-IsRound limit old new before after None = Serves old new before after [] [] × (new.open_request ≡ None) × (new.ended ≡ None)
+IsRound limit old new before after None = Serves old new before after [] [] × (new.opens ≡ []) × (new.ended ≡ None)
 IsRound limit old new before after (Some cause) = IsServed limit old new before after cause
 
 -- the answers to all that was fed
@@ -101,11 +96,6 @@ IsPause limit old new before after (pauses.Sealed request) = IsSealed limit requ
 IsPause limit old new before after (pauses.Ended causes.BadLength) = ServesToFault old new before after
 IsPause limit old new before after (pauses.Ended causes.NoMemory) = Serves old new before after [] []
 IsPause limit old new before after (pauses.Ended causes.WriteFault) = ⊥
-
--- the pending call, if any, was made and answered, or the journal was full
-abbrev pub IsCallMade : ℕ → SessionState → SessionState → Sitting → Sitting → Option (Request resources) → Type 0
-IsCallMade limit old new before after None = Serves old new before after [] [] × (new.open_request ≡ None) × (new.ended ≡ old.ended)
-IsCallMade limit old new before after (Some back) = (new ≡ old) × (pending_request new.open_request ≡ Some back) × IsSealedCall back limit before after
 
 -- ---- what was read
 

@@ -1,15 +1,17 @@
 //! A session served from a shared cluster: rounds of answering, writing out and reading (`serve_session`).
 ghost use Rattle.std.specs.Prelude.{◌≡◌, ◌≢◌, ℕ, ◌-◌, ◌^◌, List, length, min, None, Some};
+ghost use Rattle.std.specs.Option.{option_to_list};
 ghost use Rattle.cap_session.specs.Counted.{state_of, inner_of, CanCount};
-ghost use Rattle.cap_session.specs.Session.{after_sent, IsSession};
+ghost use Rattle.cap_session.specs.Session.{after_sent, open_requests, IsSession};
 ghost use Rattle.cap_session.specs.declared.counted.Sent.{Sent};
-ghost use Rattle.cap_workers.specs.Sessions.{pending_request, IsServed, IsRound, IsPause, IsCallMade, IsRead, IsWritten, IsWrittenOut, GoesOn, ReadsOn, end_of};
+ghost use Rattle.cap_workers.specs.Batches.{IsBatchMade};
+ghost use Rattle.cap_workers.specs.Sessions.{IsServed, IsRound, IsPause, IsRead, IsWritten, IsWrittenOut, GoesOn, ReadsOn, end_of};
 
 use crate::batches::answer_batch;
 use cap_base::RESOURCES;
-use cap_model::{OwnedReply, Refusal, ReplyWith, Request};
+use cap_model::Request;
 use cap_session::{Counted, Fed, Got, Next, Sent, Session, SessionCause};
-use cap_shared::{CallFault, Naming, Seat, Shared};
+use cap_shared::{Naming, Seat, Shared};
 use std::io::{Read, Write};
 use std::sync::Wait;
 
@@ -68,7 +70,7 @@ pub fn serve_session<J: Naming, H: Wait, R: Read, W: Write>(
     writer: &mut Counted<W>,
 ) -> SessionEnd
     requires goes_on { session.ended ≡ None }
-    requires pending { pending ≡ pending_request session.open_request }
+    requires pending { open_requests session.opens ≡ option_to_list pending }
     requires reader { CanCount (state_of reader.old) }
     requires writer { CanCount (state_of writer.old) }
     ensures served { IsServed J.limit session result.session seat.old seat.new result.cause }
@@ -128,7 +130,7 @@ fn serve_once<J: Naming, H: Wait, R: Read, W: Write>(
     writer: &mut Counted<W>,
 ) -> Round
     requires goes_on { session.ended ≡ None }
-    requires pending { pending ≡ pending_request session.open_request }
+    requires pending { open_requests session.opens ≡ option_to_list pending }
     requires reader { CanCount (state_of reader.old) }
     requires writer { CanCount (state_of writer.old) }
     ensures round { IsRound J.limit session result.session seat.old seat.new result.end }
@@ -142,8 +144,8 @@ fn serve_once<J: Naming, H: Wait, R: Read, W: Write>(
         × (result.sent ≡ length out) }
     ensures out { IsWrittenOut result.end result.session.unsent }
 {
-    let (session, pause) = answer_all(rt, shared, seat, session, pending);
-    match pause {
+    let mut session = session;
+    match answer_all(rt, shared, seat, &mut session, pending) {
         Pause::Need => go_on(session, reader, writer),
         Pause::Sealed(request) => finish(session, writer, EndCause::Sealed(request)),
         Pause::Ended(SessionCause::BadLength) => finish(session, writer, EndCause::Faulted),
@@ -248,57 +250,44 @@ fn answer_all<J: Naming, H: Wait>(
     rt: &H,
     shared: &Shared<J>,
     seat: &mut Seat<J>,
-    session: Session,
+    session: &mut Session,
     pending: Option<Request<RESOURCES>>,
-) -> (Session, Pause)
-    requires goes_on { session.ended ≡ None }
-    requires pending { pending ≡ pending_request session.open_request }
-    ensures pause { IsPause J.limit session result.0 seat.old seat.new result.1 }
-    ensures same { (result.0.fed ≡ session.fed) × (result.0.sent ≡ session.sent) }
+) -> Pause
+    requires goes_on { session.old.ended ≡ None }
+    requires pending { open_requests session.old.opens ≡ option_to_list pending }
+    ensures pause { IsPause J.limit session.old session.new seat.old seat.new result }
+    ensures same { (session.new.fed ≡ session.old.fed) × (session.new.sent ≡ session.old.sent) }
 {
-    let mut session = session;
-    let mut pending = pending;
+    if let Some(back) = answer_pending(rt, shared, seat, session, pending) {
+        return Pause::Sealed(back);
+    }
     for _ in rt.forever() {
-        if let Some(back) = make_call(rt, shared, seat, &mut session, pending) {
-            return (session, Pause::Sealed(back));
-        }
-        let (rest, sealed) = answer_batch(rt, shared, seat, session);
-        session = rest;
-        if let Some(request) = sealed {
-            return (session, Pause::Sealed(request));
-        }
         match session.next_request() {
-            Next::Request(request) => pending = Some(request),
-            Next::Need => return (session, Pause::Need),
-            Next::Ended(cause) => return (session, Pause::Ended(cause)),
+            Next::Request(request) => {
+                if let Some(back) = answer_batch(rt, shared, seat, session, request) {
+                    return Pause::Sealed(back);
+                }
+            }
+            Next::Need => return Pause::Need,
+            Next::Ended(cause) => return Pause::Ended(cause),
         }
     }
     unreachable!()
 }
 
-/// Makes the pending call, if any, and answers it. Where the journal is full the request comes back.
-fn make_call<J: Naming, H: Wait>(
+/// Answers the pending request, if any, and those that have come after it.
+fn answer_pending<J: Naming, H: Wait>(
     rt: &H,
     shared: &Shared<J>,
     seat: &mut Seat<J>,
     session: &mut Session,
     pending: Option<Request<RESOURCES>>,
 ) -> Option<Request<RESOURCES>>
-    requires { pending ≡ pending_request session.old.open_request }
-    ensures call { IsCallMade J.limit session.old session.new seat.old seat.new result }
+    requires goes_on { session.old.ended ≡ None }
+    requires pending { open_requests session.old.opens ≡ option_to_list pending }
+    ensures batch { IsBatchMade J.limit session.old session.new seat.old seat.new result }
     ensures same { (session.new.fed ≡ session.old.fed) × (session.new.sent ≡ session.old.sent) }
 {
     let request = pending?;
-    match shared.call(rt, seat, request) {
-        Ok(reply) => {
-            session.answer(&reply);
-            None
-        }
-        Err(CallFault::NoMemory(_request)) => {
-            let starved: OwnedReply<RESOURCES> = ReplyWith::Refused(Refusal::NoMemory);
-            session.answer(&starved);
-            None
-        }
-        Err(CallFault::Sealed(back)) => Some(back),
-    }
+    answer_batch(rt, shared, seat, session, request)
 }

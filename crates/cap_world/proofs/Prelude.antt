@@ -41,7 +41,7 @@ pub use Rattle.cap_model.specs.declared.request.Request.{Request}
 pub use Rattle.cap_session.proofs.Answering.{answers_open, answers_unless}
 pub use Rattle.cap_session.proofs.Continuing.{continues_answer, continues_bad, continues_fed, continues_none, continues_then}
 pub use Rattle.cap_session.specs.Answers.{Answers, Call, IsAnswered, nothing}
-pub use Rattle.cap_session.specs.Session.{AnswersBy, Continues, EndsNow, FeedGives, IsSession, NextGives, OpenRequest, SessionState, SpellsAnswer, after_answer, all_answers, bytes_unanswered, open_payload, with_answer}
+pub use Rattle.cap_session.specs.Session.{AnswersBy, Continues, EndsNow, FeedGives, IsSession, NextGives, OpenRequest, SessionState, SpellsAnswer, after_answer, all_answers, bytes_unanswered, open_payloads, with_answer}
 pub use Rattle.cap_session.specs.declared.session.SessionCause.{SessionCause}
 pub use Rattle.cap_sights.proofs.Alike.{same_choice}
 pub use Rattle.cap_world.specs.Answers.{AnswersSome, as_events, call_by, call_event, calls_by}

@@ -1,5 +1,5 @@
 -- Requests are answered one after the other.
-use Rattle.cap_world.proofs.Prelude.{◌≡◌, ℕ, List, [], ◌∷◌, ◌++◌, Option, Some, None, refl, sym, ap, subst, ◌∙◌, append_assoc, append-nil, inl, inr, map-append, resources, Request, Reply, Event, Flat, Replies, Run, frame_of, fault, IsBytes, fault_reply, SessionCause, Call, Answers, nothing, IsAnswered, SessionState, OpenRequest, Continues, IsSession, AnswersBy, all_answers, open_payload, FeedGives, NextGives, EndsNow, SpellsAnswer, with_answer, after_answer, answers_open, answers_unless, continues_none, continues_then, continues_bad, continues_answer, continues_fed, Standing, as_events, call_event, Connection, AnswersAs, HasAnswers, Serves, StandsAfter, IsServed, Feeds, standing_of}
+use Rattle.cap_world.proofs.Prelude.{◌≡◌, ℕ, List, [], ◌∷◌, ◌++◌, Option, Some, None, refl, sym, ap, subst, ◌∙◌, append_assoc, append-nil, inl, inr, map-append, resources, Request, Reply, Event, Flat, Replies, Run, frame_of, fault, IsBytes, fault_reply, SessionCause, Call, Answers, nothing, IsAnswered, SessionState, OpenRequest, Continues, IsSession, AnswersBy, all_answers, open_payloads, FeedGives, NextGives, EndsNow, SpellsAnswer, with_answer, after_answer, answers_open, answers_unless, continues_none, continues_then, continues_bad, continues_answer, continues_fed, Standing, as_events, call_event, Connection, AnswersAs, HasAnswers, Serves, StandsAfter, IsServed, Feeds, standing_of}
 use Rattle.cap_session.specs.declared.session.SessionCause.TheVariants as causes
 use Rattle.cap_session.specs.declared.session.Fed.TheVariants as feds
 use Rattle.cap_session.specs.declared.session.Next.TheVariants as nexts
@@ -28,25 +28,25 @@ serves_then {by} {a} {b} {c} {before} x y = record {
 -- ---- what comes next
 
 -- a session after payloads that are no requests, and last these bytes
-bad_then : (s t : SessionState) (payloads : List (List ℕ)) (frames last : List ℕ) (o : Option OpenRequest) (c : Option SessionCause) → Answers {K = resources} payloads [] frames
-    → t ≡ record s { answered = s.answered ++ payloads; unsent = s.unsent ++ (frames ++ last); open_request = o; ended = c } → Continues s t [] [] last
+bad_then : (s t : SessionState) (payloads : List (List ℕ)) (frames last : List ℕ) (o : List OpenRequest) (c : Option SessionCause) → Answers {K = resources} payloads [] frames
+    → t ≡ record s { answered = s.answered ++ payloads; unsent = s.unsent ++ (frames ++ last); opens = o; ended = c } → Continues s t [] [] last
 bad_then s t payloads frames last o c answers now =
     continues_bad s t payloads frames last answers (ap (λ (x : SessionState). x.fed) now) (ap (λ (x : SessionState). x.answered) now) (ap (λ (x : SessionState). x.calls) now) (ap (λ (x : SessionState). x.sent) now) (ap (λ (x : SessionState). x.unsent) now)
 
 -- and no more bytes
-nothing_last : (s t : SessionState) (payloads : List (List ℕ)) (frames : List ℕ) (o : Option OpenRequest) (c : Option SessionCause) → t ≡ record s { answered = s.answered ++ payloads; unsent = s.unsent ++ frames; open_request = o; ended = c }
-    → t ≡ record s { answered = s.answered ++ payloads; unsent = s.unsent ++ (frames ++ []); open_request = o; ended = c }
+nothing_last : (s t : SessionState) (payloads : List (List ℕ)) (frames : List ℕ) (o : List OpenRequest) (c : Option SessionCause) → t ≡ record s { answered = s.answered ++ payloads; unsent = s.unsent ++ frames; opens = o; ended = c }
+    → t ≡ record s { answered = s.answered ++ payloads; unsent = s.unsent ++ (frames ++ []); opens = o; ended = c }
 nothing_last s t payloads frames o c now =
-    now ∙ ap (λ (x : List ℕ). record s { answered = s.answered ++ payloads; unsent = s.unsent ++ x; open_request = o; ended = c }) (sym (append-nil frames))
+    now ∙ ap (λ (x : List ℕ). record s { answered = s.answered ++ payloads; unsent = s.unsent ++ x; opens = o; ended = c }) (sym (append-nil frames))
 
 -- a request, its call and its answer
-pub serves_call : (by : ℕ) (s t u : SessionState) (request : Request resources) (reply : Reply resources) (from to : Flat resources) (before after : List (Event resources)) → NextGives s t (nexts.Request request) → u ≡ after_answer t reply → SpellsAnswer t.open_request reply → Replies from request reply to
-    → after ≡ before ++ call_event by request reply ∷ [] → Serves by [] s u from to before after [] × (u.sent ≡ s.sent) × (u.open_request ≡ None) × (u.ended ≡ None)
+pub serves_call : (by : ℕ) (s t u : SessionState) (request : Request resources) (reply : Reply resources) (from to : Flat resources) (before after : List (Event resources)) → NextGives s t (nexts.Request request) → u ≡ after_answer t reply → SpellsAnswer t.opens reply → Replies from request reply to
+    → after ≡ before ++ call_event by request reply ∷ [] → Serves by [] s u from to before after [] × (u.sent ≡ s.sent) × (u.opens ≡ []) × (u.ended ≡ None)
 serves_call by s t u request reply from to before after (over, payloads, frames, o, answers, is, spells, now) then spelled replies added =
-    let opens : t.open_request ≡ Some o = ap (λ (x : SessionState). x.open_request) now in
-    let answered : u ≡ with_answer t (Some o) reply = then ∙ ap (λ (x : Option OpenRequest). with_answer t x reply) opens in
-    let first : Continues s t [] [] [] = bad_then s t payloads frames [] (Some o) s.ended answers (nothing_last s t payloads frames (Some o) s.ended now) in
-    let both = continues_then first (continues_answer t u o reply (subst (λ (x : Option OpenRequest). SpellsAnswer x reply) opens spelled) answered) in (
+    let opens : t.opens ≡ o ∷ [] = ap (λ (x : SessionState). x.opens) now in
+    let answered : u ≡ with_answer t (o ∷ []) reply = then ∙ ap (λ (x : List OpenRequest). with_answer t x reply) opens in
+    let first : Continues s t [] [] [] = bad_then s t payloads frames [] (o ∷ []) s.ended answers (nothing_last s t payloads frames (o ∷ []) s.ended now) in
+    let both = continues_then first (continues_answer t u o [] reply (subst (λ (x : List OpenRequest). SpellsAnswer x reply) opens spelled) answered) in (
       record {
         calls = record { request = request; reply = reply } ∷ [];
         continues = subst (λ (q : Request resources). Continues s u [] (record { request = q; reply = reply } ∷ []) []) is both;
@@ -54,7 +54,7 @@ serves_call by s t u request reply from to before after (over, payloads, frames,
         run = (to, replies, refl);
       },
       ap (λ (x : SessionState). x.sent) answered ∙ ap (λ (x : SessionState). x.sent) now,
-      ap (λ (x : SessionState). x.open_request) answered,
+      ap (λ (x : SessionState). x.opens) answered,
       ap (λ (x : SessionState). x.ended) answered ∙ ap (λ (x : SessionState). x.ended) now ∙ over,
     )
 
@@ -62,18 +62,18 @@ serves_call by s t u request reply from to before after (over, payloads, frames,
 pub served_starved : (by : ℕ) (s t u : SessionState) (request : Request resources) (from to : Flat resources) (before after : List (Event resources)) → Serves by [] s t from to before after [] → t.sent ≡ s.sent → NextGives t u (nexts.Request request) → IsSession u → IsServed by standings.Starved s u from to before after
 served_starved by s t u request from to before after serves sent (over, payloads, frames, o, answers, is, spells, now) session = record {
   last = [];
-  serves = serves_then serves (serves_quiet by [] t u to after [] (bad_then t u payloads frames [] (Some o) t.ended answers (nothing_last t u payloads frames (Some o) t.ended now)));
+  serves = serves_then serves (serves_quiet by [] t u to after [] (bad_then t u payloads frames [] (o ∷ []) t.ended answers (nothing_last t u payloads frames (o ∷ []) t.ended now)));
   stands = let opens : u.ended ≡ None = ap (λ (x : SessionState). x.ended) now ∙ over in ((λ bad. cc), refl);
   session = session;
   sent = ap (λ (x : SessionState). x.sent) now ∙ sent;
 }
 
 -- less than a frame
-pub served_rest : (by : ℕ) (s t u : SessionState) (from to : Flat resources) (before after : List (Event resources)) → Serves by [] s t from to before after [] → t.sent ≡ s.sent → t.open_request ≡ None → NextGives t u nexts.Need → IsSession u → IsServed by standings.Open s u from to before after
+pub served_rest : (by : ℕ) (s t u : SessionState) (from to : Flat resources) (before after : List (Event resources)) → Serves by [] s t from to before after [] → t.sent ≡ s.sent → t.opens ≡ [] → NextGives t u nexts.Need → IsSession u → IsServed by standings.Open s u from to before after
 served_rest by s t u from to before after serves sent none (over, payloads, frames, answers, now, end) session = record {
   last = [];
-  serves = serves_then serves (serves_quiet by [] t u to after [] (bad_then t u payloads frames [] t.open_request t.ended answers (nothing_last t u payloads frames t.open_request t.ended now)));
-  stands = (ap (λ (x : SessionState). x.ended) now ∙ over, ap (λ (x : SessionState). x.open_request) now ∙ none, refl, end);
+  serves = serves_then serves (serves_quiet by [] t u to after [] (bad_then t u payloads frames [] t.opens t.ended answers (nothing_last t u payloads frames t.opens t.ended now)));
+  stands = (ap (λ (x : SessionState). x.ended) now ∙ over, ap (λ (x : SessionState). x.opens) now ∙ none, refl, end);
   session = session;
   sent = ap (λ (x : SessionState). x.sent) now ∙ sent;
 }
@@ -82,14 +82,14 @@ ended_now : (by : ℕ) (cause : SessionCause) (s t u : SessionState) (from to : 
 ended_now by causes.WriteFault s t u from to before after serves sent ends session = absurd ends
 ended_now by causes.NoMemory s t u from to before after serves sent (payloads, frames, answers, now) session = record {
   last = [];
-  serves = serves_then serves (serves_quiet by [] t u to after [] (bad_then t u payloads frames [] t.open_request (Some causes.NoMemory) answers (nothing_last t u payloads frames t.open_request (Some causes.NoMemory) now)));
+  serves = serves_then serves (serves_quiet by [] t u to after [] (bad_then t u payloads frames [] t.opens (Some causes.NoMemory) answers (nothing_last t u payloads frames t.opens (Some causes.NoMemory) now)));
   stands = let is : u.ended ≡ Some causes.NoMemory = ap (λ (x : SessionState). x.ended) now in ((λ bad. cc), refl);
   session = session;
   sent = ap (λ (x : SessionState). x.sent) now ∙ sent;
 }
 ended_now by causes.BadLength s t u from to before after serves sent (payloads, frames, answers, now, end) session = record {
   last = frame_of (fault_reply 40);
-  serves = serves_then serves (serves_quiet by [] t u to after (frame_of (fault_reply 40)) (bad_then t u payloads frames (frame_of (fault_reply 40)) t.open_request (Some causes.BadLength) answers now));
+  serves = serves_then serves (serves_quiet by [] t u to after (frame_of (fault_reply 40)) (bad_then t u payloads frames (frame_of (fault_reply 40)) t.opens (Some causes.BadLength) answers now));
   stands = (ap (λ (x : SessionState). x.ended) now, refl);
   session = session;
   sent = ap (λ (x : SessionState). x.sent) now ∙ sent;
@@ -146,7 +146,7 @@ answers_as standings.Faulted s last stands session empty =
     (at.0, (s.answered, at.2, subst (λ (x : List ℕ). IsAnswered s.answered (fault at.0) s.calls x) all at.1))
 answers_as standings.Starved s last stands session empty =
     let all : all_answers s ≡ s.unsent = ap (λ (x : List ℕ). x ++ s.unsent) empty in
-    (s.answered, open_payload s.open_request ++ session.stream.0, session.stream.1, session.stream.2, subst (λ (x : List ℕ). Answers s.answered s.calls x) all (answers_unless s.ended s stands.0 session.answers))
+    (s.answered, open_payloads s.opens ++ session.stream.0, session.stream.1, session.stream.2, subst (λ (x : List ℕ). Answers s.answered s.calls x) all (answers_unless s.ended s stands.0 session.answers))
 
 -- a connection that is fed has answers for all its bytes
 pub answered_more : (by : ℕ) (piece : List ℕ) (calls : List (Call resources)) (from to : Flat resources) (before after : List (Event resources)) (old new : Connection) → HasAnswers calls old → (f : Feeds by piece from to before after old new) → HasAnswers (calls ++ f.serves.calls) new

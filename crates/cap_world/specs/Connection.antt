@@ -41,4 +41,4 @@ pub record HasAnswers (calls : List (Call resources)) (connection : Connection) 
 pub record WritesNothingOut (standing : Standing) (session : SessionState) : Type 0 where
   pub sent : session.sent ≡ []
   pub ended : standing ≡ standings.Open → session.ended ≡ None
-  pub none_open : standing ≡ standings.Open → session.open_request ≡ None
+  pub none_open : standing ≡ standings.Open → session.opens ≡ []

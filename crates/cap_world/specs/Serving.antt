@@ -1,5 +1,5 @@
 -- What answering requests does, and what feeding a connection does.
-use Rattle.std.specs.Prelude.{◌≡◌, ◌≢◌, ◌⊎◌, ℕ, List, [], ◌++◌, Option, Some, None}
+use Rattle.std.specs.Prelude.{◌≡◌, ◌≢◌, ◌⊎◌, ℕ, List, [], ◌∷◌, ◌++◌, Some, None}
 use Rattle.cap_base.specs.Limits.{resources}
 use Rattle.cap_model.specs.declared.request.Request.{Request}
 use Rattle.cap_model.specs.declared.event.Event.{Event}
@@ -15,10 +15,10 @@ use Rattle.cap_world.specs.declared.connection.Standing.TheVariants as standings
 use Rattle.cap_world.specs.Answers.{as_events}
 use Rattle.cap_world.specs.Connection.{Connection}
 
--- this request is open
-abbrev pub IsOpenFor : Request resources → Option OpenRequest → Type 0
-IsOpenFor request None = ⊥
-IsOpenFor request (Some o) = o.request ≡ request
+-- this request is the first that is open
+abbrev pub IsOpenFor : Request resources → List OpenRequest → Type 0
+IsOpenFor request [] = ⊥
+IsOpenFor request (o ∷ opens) = o.request ≡ request
 
 -- how a connection stands whose session has ended
 abbrev pub standing_of : SessionCause → Standing
@@ -37,7 +37,7 @@ pub record Serves (by : ℕ) (more : List ℕ) (old new : SessionState) (from to
 -- How the session is where a connection stands so, and what was answered last: it waits for more of a frame, or a length came that no frame
 -- has, or memory was refused.
 abbrev pub StandsAfter : Standing → SessionState → List ℕ → Type 0
-StandsAfter standings.Open s last = (s.ended ≡ None) × (s.open_request ≡ None) × (last ≡ []) × ((left : List ℕ) × IsStream s.fed s.answered (rest left))
+StandsAfter standings.Open s last = (s.ended ≡ None) × (s.opens ≡ []) × (last ≡ []) × ((left : List ℕ) × IsStream s.fed s.answered (rest left))
 StandsAfter standings.Faulted s last = (s.ended ≡ Some causes.BadLength) × (last ≡ tail_answer (fault []))
 StandsAfter standings.Starved s last = (s.ended ≢ Some causes.BadLength) × (last ≡ [])
 StandsAfter standings.Ended s last = ⊥

@@ -24,7 +24,7 @@ pub(crate) fn answer_all(
     cluster: &mut Cluster<RESOURCES>,
     events: &mut Vec<Event<RESOURCES>>,
 ) -> Standing
-    requires open { session.old.open_request ≡ None }
+    requires open { session.old.opens ≡ [] }
     requires ended { session.old.ended ≡ None }
     ensures { IsServed by result session.old session.new
         cluster.old.flat cluster.new.flat events.old.items events.new.items }
@@ -66,13 +66,13 @@ fn perform(
     cluster: &mut Cluster<RESOURCES>,
     events: &mut Vec<Event<RESOURCES>>,
 )
-    requires open { IsOpenFor request session.old.open_request }
+    requires open { IsOpenFor request session.old.opens }
     requires room { vec_len events.old < vec_capacity events.old }
     requires news { HasRoomForReplies cluster.old.flat request room }
     ensures performed { (reply : Reply resources)
         × Replies cluster.old.flat request reply cluster.new.flat
         × (session.new ≡ after_answer session.old reply)
-        × SpellsAnswer session.old.open_request reply
+        × SpellsAnswer session.old.opens reply
         × (events.new.items ≡ events.old.items ++ call_event by request reply ∷ []) }
     ensures less { bytes_unanswered session.new < bytes_unanswered session.old }
 {

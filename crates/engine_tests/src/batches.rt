@@ -1,12 +1,9 @@
-//! Tests of requests that a session hands out together.
-ghost use Rattle.std.specs.Prelude.{◌≡◌, None};
-ghost use Rattle.cap_session.specs.Ahead.{asked_requests};
+//! Tests of requests that a session reads ahead and hands out together.
+ghost use Rattle.std.specs.Prelude.{◌≡◌, [], length};
 
-use cap_base::RESOURCES;
-use cap_model::{Refusal, ReplyWith, Request};
-use cap_session::{Batch, Fed, Next, Session};
+use cap_model::{Refusal, ReplyWith};
+use cap_session::{Fed, Next, Session};
 use std::alloc::Global;
-use std::collections::VecDeque;
 
 /// ClusterInfo with call ids 1 and 2, a payload of one byte, and a ClusterInfo with call id 3, framed.
 const FOUR: &[u8] = &[
@@ -20,91 +17,107 @@ const FOUR_ANSWERED: &[u8] = &[
     0, 41, 0, 0, 0, 7, 1, 10, 0, 0, 0, 3, 1,
 ];
 
-/// Refuses the first requests of a batch with status 1, so many of them, and gives back the session with the others.
-fn refuse_some(batch: Batch, requests: VecDeque<Request<RESOURCES>>, count: u32) -> Session
-    requires { requests.items ≡ asked_requests batch.asked }
-    ensures { result.open_request ≡ batch.session.open_request }
+/// How many requests are read ahead at most.
+const AHEAD_MAX: usize = 64;
+
+/// How many bytes the reply to each takes, with its frame.
+const REPLY_BYTES: usize = 11;
+
+/// Opens requests that were read ahead, so many at most, and says how many there were.
+fn open_ahead(session: &mut Session, most: usize) -> usize
+    requires { session.old.opens ≡ [] }
+    ensures { length session.new.opens ≡ result }
 {
-    let (mut batch, mut requests) = (batch, requests);
-    for _ in 0..count {
-        if requests.pop_front().is_none() {
-            break;
+    let mut count = 0;
+    while count < most {
+        if session.next_ahead().is_none() {
+            return count;
         }
-        batch.answer(&ReplyWith::Refused(Refusal::UnknownQueue));
+        count += 1;
     }
-    batch.finish(requests)
+    count
 }
 
-/// Refuses each request that is left, one after the other, with status 1.
-fn refuse_rest(session: &mut Session)
-    requires { session.old.open_request ≡ None }
+/// Refuses the open requests, of which there are so many, with status 1.
+fn refuse_open(session: &mut Session, count: usize)
+    requires { length session.old.opens ≡ count }
+    ensures { session.new.opens ≡ [] }
 {
-    for _ in 0..8 {
-        let Next::Request(_) = session.next_request() else {
-            return;
-        };
+    for _ in 0..count {
         session.answer(&ReplyWith::Refused(Refusal::UnknownQueue));
     }
 }
 
-/// How many requests are handed out together of the stream, and whether it is answered where so many of them are answered together and the
-/// others one after the other. `None` if an allocation fails.
-fn answers_after(alloc: Global, together: u32) -> Option<(usize, bool)> {
+/// Refuses each request that is left, one after the other, with status 1, and says how many there were.
+fn refuse_rest(session: &mut Session) -> usize
+    requires { session.old.opens ≡ [] }
+{
+    let mut count = 0;
+    for _ in 0..8 {
+        let Next::Request(_) = session.next_request() else {
+            return count;
+        };
+        session.answer(&ReplyWith::Refused(Refusal::UnknownQueue));
+        count += 1;
+    }
+    count
+}
+
+/// How many requests of the stream are opened before the first is answered, so many at most, and whether the stream is answered where the
+/// others are answered one after the other. `None` if an allocation fails.
+fn answers_after(alloc: Global, together: usize) -> Option<(usize, bool)> {
     let mut session = Session::open(alloc).ok()?;
     if session.feed(FOUR) != Fed::Taken {
         return None;
     }
     session.read_ahead();
-    let (batch, requests, _) = session.batch().ok()?;
-    let handed = requests.len();
-    let mut session = refuse_some(batch, requests, together);
+    let opened = open_ahead(&mut session, together);
+    refuse_open(&mut session, opened);
     refuse_rest(&mut session);
-    Some((handed, session.unsent() == FOUR_ANSWERED))
+    Some((opened, session.unsent() == FOUR_ANSWERED))
 }
 
 #[test]
-fn requests_are_handed_out_together_up_to_a_payload_that_is_none(rt: HostRuntime) {
+fn requests_are_open_together_up_to_a_payload_that_is_none(rt: HostRuntime) {
     for together in 0..4 {
-        assert!(rt; answers_after(rt.alloc(), together) == Some((2, true)));
+        let opened = if together < 2 { together } else { 2 };
+        assert!(rt; answers_after(rt.alloc(), together) == Some((opened, true)));
     }
 }
 
-/// Whether the stream is answered where the first request is open again before it is answered. `None` if an allocation fails.
-fn answers_suspended(alloc: Global) -> Option<bool> {
+/// How many of 70 requests are read ahead, how many are left then, and how many bytes answer them all. `None` if an allocation fails.
+fn reads_ahead_many(alloc: Global) -> Option<(usize, usize, usize)> {
     let mut session = Session::open(alloc).ok()?;
-    if session.feed(FOUR) != Fed::Taken {
-        return None;
+    let (one, _) = FOUR.split_at_checked(10)?;
+    for _ in 0..70 {
+        if session.feed(one) != Fed::Taken {
+            return None;
+        }
     }
     session.read_ahead();
-    let Ok((batch, mut requests, _)) = session.batch() else {
-        return None;
-    };
-    let Some(_first) = requests.pop_front() else {
-        return None;
-    };
-    let mut session = batch.suspend(requests);
-    session.answer(&ReplyWith::Refused(Refusal::UnknownQueue));
-    refuse_rest(&mut session);
-    Some(session.unsent() == FOUR_ANSWERED)
+    let opened = open_ahead(&mut session, 70);
+    refuse_open(&mut session, opened);
+    let left = refuse_rest(&mut session);
+    Some((opened, left, session.unsent().len()))
 }
 
 #[test]
-fn the_first_request_of_a_batch_can_be_open_again(rt: HostRuntime) {
-    assert!(rt; answers_suspended(rt.alloc()) == Some(true));
+fn at_most_64_requests_are_read_ahead(rt: HostRuntime) {
+    assert!(rt; reads_ahead_many(rt.alloc()) == Some((AHEAD_MAX, 6, 70 * REPLY_BYTES)));
 }
 
-/// Whether a session without a whole request has none to hand out. `None` if an allocation fails.
-fn hands_out_nothing(alloc: Global) -> Option<bool> {
+/// Whether a session without a whole request has none to open. `None` if an allocation fails.
+fn opens_nothing(alloc: Global) -> Option<bool> {
     let mut session = Session::open(alloc).ok()?;
     let (partial, _) = FOUR.split_at_checked(9)?;
     if session.feed(partial) != Fed::Taken {
         return None;
     }
     session.read_ahead();
-    Some(session.batch().is_err())
+    Some(session.next_ahead().is_none())
 }
 
 #[test]
-fn a_session_without_a_whole_request_hands_out_nothing(rt: HostRuntime) {
-    assert!(rt; hands_out_nothing(rt.alloc()) == Some(true));
+fn a_session_without_a_whole_request_opens_none(rt: HostRuntime) {
+    assert!(rt; opens_nothing(rt.alloc()) == Some(true));
 }

@@ -25,16 +25,20 @@ enum Given {
     NoMemory,
 }
 
+/// What a framer gives next, which it shows before.
 fn next(framer: &mut Framer, wanted: &[u8]) -> Given {
+    let is_wanted = framer.peek() == Some(wanted);
+    let is_shown = framer.peek().is_some();
     match framer.next() {
-        Ok(None) => Given::Nothing,
-        Ok(Some(payload)) => {
-            if payload.as_slice() == wanted {
+        Ok(None) if !is_shown => Given::Nothing,
+        Ok(Some(payload)) if is_shown => {
+            if payload.as_slice() == wanted && is_wanted {
                 Given::Wanted
             } else {
                 Given::Other
             }
         }
+        Ok(_) => Given::Other,
         Err(FrameFault::BadLength) => Given::BadLength,
         Err(FrameFault::NoMemory) => Given::NoMemory,
     }

@@ -1,5 +1,5 @@
 //! Tests of sessions: streams cut anywhere, bad messages and lengths, what follows the end, refused memory.
-ghost use Rattle.std.specs.Prelude.{◌≡◌, None};
+ghost use Rattle.std.specs.Prelude.{◌≡◌, []};
 
 use cap_model::{Refusal, ReplyWith};
 use cap_session::{Counted, Fed, Got, Next, Sent, Session, SessionCause};
@@ -27,8 +27,8 @@ const BAD_LENGTH_ANSWERED: &[u8] = &[0, 0, 0, 7, 1, 0, 0, 0, 0, 0, 40];
 
 /// Refuses up to eight requests with status 1, and says why the session has ended, if it has.
 fn refuse_all(session: &mut Session) -> Option<SessionCause>
-    requires { session.old.open_request ≡ None }
-    ensures { session.new.open_request ≡ None }
+    requires { session.old.opens ≡ [] }
+    ensures { session.new.opens ≡ [] }
 {
     for _ in 0..8 {
         match session.next_request() {

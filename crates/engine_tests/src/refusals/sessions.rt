@@ -1,6 +1,6 @@
 //! Sessions: opening one, feeding it, what comes next, answering and writing out.
-ghost use Rattle.std.specs.Prelude.{◌≡◌, None};
-ghost use Rattle.cap_world.specs.Serving.{IsOpenFor};
+ghost use Rattle.std.specs.Prelude.{◌≡◌, [], ◌∷◌};
+ghost use Rattle.cap_session.specs.Session.{open_requests};
 
 use crate::refusals::fixture::{came_of, cluster_after};
 use crate::refusals::table::Before;
@@ -33,8 +33,8 @@ const FIRST: usize = 55;
 
 /// Feeds a session of which no request is open.
 fn feed(session: &mut Session, piece: &[u8]) -> Fed
-    requires { session.old.open_request ≡ None }
-    ensures { session.new.open_request ≡ None }
+    requires { session.old.opens ≡ [] }
+    ensures { session.new.opens ≡ [] }
 {
     session.feed(piece)
 }
@@ -46,8 +46,8 @@ fn answer(
     session: &mut Session,
     request: &Request<RESOURCES>,
 )
-    requires { IsOpenFor request.now session.old.open_request }
-    ensures { session.new.open_request ≡ None }
+    requires { open_requests session.old.opens ≡ request.now ∷ [] }
+    ensures { session.new.opens ≡ [] }
 {
     match dispatch(alloc, cluster, request) {
         ReplyWith::ClusterInfo { report } => session.answer(&ReplyWith::ClusterInfo { report }),
@@ -62,8 +62,8 @@ fn serve_next(
     cluster: &mut Cluster<RESOURCES>,
     session: &mut Session,
 ) -> Option<bool>
-    requires { session.old.open_request ≡ None }
-    ensures { session.new.open_request ≡ None }
+    requires { session.old.opens ≡ [] }
+    ensures { session.new.opens ≡ [] }
 {
     match session.next_request() {
         Next::Request(request) => {
@@ -83,7 +83,7 @@ fn has_ended(
     session: &mut Session,
     output: &[u8],
 ) -> bool
-    requires { session.old.open_request ≡ None }
+    requires { session.old.opens ≡ [] }
 {
     let ended = Fed::Ended(SessionCause::NoMemory);
     feed(session, INFO) == ended
@@ -100,7 +100,7 @@ fn fed(
     cluster: &mut Cluster<RESOURCES>,
     session: &mut Session,
 ) -> Option<Came>
-    requires { session.old.open_request ≡ None }
+    requires { session.old.opens ≡ [] }
 {
     let (half, rest) = INFO.split_at_checked(5)?;
     hoard.leave(alloc, bytes);
@@ -126,7 +126,7 @@ fn found(
     cluster: &mut Cluster<RESOURCES>,
     session: &mut Session,
 ) -> Option<Came>
-    requires { session.old.open_request ≡ None }
+    requires { session.old.opens ≡ [] }
 {
     feed(session, INFO);
     serve_next(alloc, cluster, session)?;
@@ -188,7 +188,7 @@ fn sent(
     session: &mut Session,
     room: &mut [u8],
 ) -> Option<Sent>
-    requires { session.old.open_request ≡ None }
+    requires { session.old.opens ≡ [] }
 {
     feed(session, INFO);
     let Next::Request(request) = session.next_request() else {

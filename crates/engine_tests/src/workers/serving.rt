@@ -1,7 +1,8 @@
 //! A session that is served until its input ends or something fails.
 ghost use Rattle.std.specs.Prelude.{◌≡◌, IsTrue, None};
 ghost use Rattle.cap_session.specs.Counted.{state_of, CanCount};
-ghost use Rattle.cap_workers.specs.Sessions.{pending_request};
+ghost use Rattle.std.specs.Option.{option_to_list};
+ghost use Rattle.cap_session.specs.Session.{open_requests};
 
 use cap_base::RESOURCES;
 use cap_commit::Cluster;
@@ -32,7 +33,7 @@ pub struct Waiting {
     session: Session,
     pending: Option<Request<RESOURCES>>,
     ghost goes_on: { session.ended ≡ None },
-    ghost open: { pending ≡ pending_request session.open_request },
+    ghost open: { open_requests session.opens ≡ option_to_list pending },
 }
 
 impl Waiting {

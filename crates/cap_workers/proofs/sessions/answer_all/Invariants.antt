@@ -1,11 +1,11 @@
-use Rattle.cap_workers.proofs.Prelude.{◌≡◌, [], None, Serves, pending_request}
+use Rattle.cap_workers.proofs.Prelude.{◌≡◌, [], None, Serves}
 use Rattle.cap_workers.proofs.sessions.answer_all.Given as goal
 
 -- the calls so far were made and answered
 abbrev pub invariant-loop : goal.invariant-loop
 invariant-loop g l = record {
   serves : Serves l.fn.session l.session l.fn.seat l.seat [] [];
-  pending : l.pending ≡ pending_request l.session.open_request;
+  none_open : l.session.opens ≡ [];
   goes_on : l.session.ended ≡ None;
   fed : l.session.fed ≡ l.fn.session.fed;
   sent : l.session.sent ≡ l.fn.session.sent;

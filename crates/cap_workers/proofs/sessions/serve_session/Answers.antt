@@ -1,4 +1,4 @@
-use Rattle.cap_workers.proofs.Prelude.{refl, sym, ap, subst, [], ◌++◌, None, Option, state_of, inner_of, IsRead, IsRound, IsWritten, pending_request, EndCause}
+use Rattle.cap_workers.proofs.Prelude.{refl, sym, ap, subst, [], ◌++◌, None, Option, state_of, inner_of, IsRead, IsRound, IsWritten, open_requests, EndCause}
 use Rattle.cap_workers.proofs.Receipts.{serves_none, serves_then}
 use Rattle.cap_workers.proofs.Rounds.{served_then}
 use Rattle.cap_workers.proofs.Streams.{reads_none, writes_none, read_then, written_then, can_still_read, can_still_write, sum_saturates}
@@ -51,7 +51,7 @@ loop-preserved g c =
     let more = subst (λ (e : Option EndCause). IsWritten e (state_of c.loop.writer) (state_of c.serve_once-served.new.writer) (g.W.Write.contents (inner_of c.loop.writer)) (g.W.Write.contents (inner_of c.serve_once-served.new.writer)) c.loop.session.sent c.serve_once-served.result.session.sent wrote.0) c.in_default.is wrote.1 in
     record {
       serves = serves_then i.serves round.0;
-      pending = sym (ap pending_request round.1);
+      pending = ap open_requests round.1;
       goes_on = round.2;
       read = read_then i.read read;
       written = (i.written.0 ++ wrote.0, written_then i.written.1 more, sum_saturates i.written.0 wrote.0 c.loop.sent c.serve_once-served.result.sent c.saturating_add-sent.result i.written.2 wrote.2 c.saturating_add-sent.ensures);

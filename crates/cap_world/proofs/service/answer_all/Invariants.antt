@@ -6,7 +6,7 @@ abbrev pub invariant-loop-request : goal.invariant-loop-request
 invariant-loop-request l = record {
   serves : Serves l.by [] l.fn.session l.session l.fn.cluster.flat l.cluster.flat l.fn.events.items l.events.items [];
   sent : l.session.sent ≡ l.fn.session.sent;
-  none_open : l.session.open_request ≡ None;
+  none_open : l.session.opens ≡ [];
   ended : l.session.ended ≡ None;
 }
 

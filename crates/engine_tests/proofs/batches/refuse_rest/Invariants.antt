@@ -1,6 +1,6 @@
-use Rattle.std.proofs.Common.{◌≡◌, None}
+use Rattle.std.proofs.Common.{◌≡◌, []}
 use Rattle.engine_tests.proofs.batches.refuse_rest.Given as goal
 
 -- none is open
 abbrev pub invariant-loop : goal.invariant-loop
-invariant-loop l = l.session.open_request ≡ None
+invariant-loop l = l.session.opens ≡ []
