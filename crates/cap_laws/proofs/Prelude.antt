@@ -52,19 +52,21 @@ pub use Rattle.cap_model.specs.Candidates.{admissible_on, choice_on, first_choic
 pub use Rattle.cap_model.specs.Choice.{IsFirstChoice, IsNodeChoice, is_after, rank_cmp, rank_of, ring_from}
 pub use Rattle.cap_model.specs.Ending.{after_ends, is_among, named_among, with_ends}
 pub use Rattle.cap_model.specs.Events.{Run, Step, after_event, after_grant, after_reserve, ended_between, ever_ended, ever_granted, grant_proposal, granted_by, is_no_memory, news_of, reserve_proposal, take_one}
+pub use Rattle.cap_model.specs.FinishMaster.{after_finish_master}
 pub use Rattle.cap_model.specs.Flat.{App, AppTable, ClusterNode, Container, Flat, NodeTable, Reservation, app_at, ask_at, change_app, change_node, containers_of, containers_on, is_for, node_at, opened_cluster, queue_at, reservation_on, with_app, with_reserved}
 pub use Rattle.cap_model.specs.Heartbeat.{after_processed_heartbeat, beat_of, ended_by, is_repeated_heartbeat}
 pub use Rattle.cap_model.specs.News.{AllocateReply, Grant, Reply}
-pub use Rattle.cap_model.specs.NodeGone.{remove_node}
-pub use Rattle.cap_model.specs.QueueCalls.{queue_report}
+pub use Rattle.cap_model.specs.NodeGone.{after_node_gone, remove_node}
+pub use Rattle.cap_model.specs.QueueCalls.{after_set_queue_state, queue_report}
 pub use Rattle.cap_model.specs.Refresh.{after_refresh, first_of_queue, first_of_settings, has_its_queues, lines_refusal, refreshed_queue, refreshed_settings, with_settings}
-pub use Rattle.cap_model.specs.RegisterNode.{add_node, new_node, register_node_refusal, total_of_nodes}
+pub use Rattle.cap_model.specs.RegisterMaster.{after_register_master}
+pub use Rattle.cap_model.specs.RegisterNode.{add_node, after_register_node, new_node, register_node_refusal, total_of_nodes}
 pub use Rattle.cap_model.specs.Replies.{Replies, after_request, granted_cluster, granted_reply, refusal_of, refused_or, reply_to}
 pub use Rattle.cap_model.specs.Reporting.{HasRoomFor, IsNoAllocate, NewsRoom, news_most}
 pub use Rattle.cap_model.specs.ResponseIds.{is_repeated}
 pub use Rattle.cap_model.specs.Risen.{LimitsAreMetOrNotRisen, MeetsMaximum, MeetsUserLimit, NotRisen, QuietRun, in_queue, of_user, raises}
 pub use Rattle.cap_model.specs.Sight.{AppSight, NodeSight, QueueSight, Sight, app_sight, node_sight, queue_sight, queues_to, seen_app, seen_node, seen_queue, sight_of, still_wanted}
-pub use Rattle.cap_model.specs.Submit.{has_children, is_running, new_app, submit_refusal}
+pub use Rattle.cap_model.specs.Submit.{after_submit, has_children, is_running, new_app, submit_refusal}
 pub use Rattle.cap_model.specs.Uses.{Holding, holdings, node_free, node_held, queue_use, use_of, user_use}
 pub use Rattle.cap_model.specs.declared.ask.Key.{Key}
 pub use Rattle.cap_model.specs.declared.event.Event.{Event}

@@ -1,4 +1,5 @@
 -- What calls and steps change of applications, containers and nodes.
+pub mod Steps
 pub mod Lessening
 pub mod Moves
 pub mod Registering
