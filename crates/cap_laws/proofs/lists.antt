@@ -1,2 +1,3 @@
--- Parts of a list.
+-- Parts of a list, and tables of numbered items.
 pub mod Parts
+pub mod Tables

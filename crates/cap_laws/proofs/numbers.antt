@@ -2,4 +2,3 @@
 pub mod AppNumbers
 pub mod Balance
 pub mod ContainerNumbers
-pub mod UsedNumbers

@@ -1,5 +1,6 @@
 -- Every state of a run from a bounded cluster is bounded.
-use Rattle.cap_laws.proofs.Prelude.{◌≡◌, ℕ, List, [], ◌∷◌, ◌++◌, refl, subst, inl, inr, arith, ◌&&◌, Option, Some, None, bytes_eq, true, cases_lt, Settings, fits, times, Flat, App, Container, Reservation, opened_cluster, is_under, use_of, queue_use, Event, Step, Run, FitsMaximum, IsLeaf, AreThere, IsQueueBounded, IsNodeBounded, IsReservationBounded, IsWellFormed, IsBounded, IsListing, StepStaysBounded, RunsStayBounded, OpenedIsBounded, OpenedMeetsLimits, of_each, use_amount, use_past, amounts_fit, listings_stand_below}
+use Rattle.cap_laws.proofs.Prelude.{◌≡◌, ℕ, List, [], inl, inr, arith, ◌&&◌, Option, Some, None, bytes_eq, true, cases_lt, Settings, fits, times, Flat, App, Container, Reservation, opened_cluster, is_under, use_of, queue_use, Event, Step, FitsMaximum, IsLeaf, AreThere, IsQueueBounded, IsNodeBounded, IsReservationBounded, IsWellFormed, IsBounded, IsListing, StepStaysBounded, RunsStayBounded, OpenedIsBounded, OpenedMeetsLimits, of_each, use_amount, use_past, amounts_fit, listings_stand_below}
+use Rattle.cap_laws.proofs.calls.Steps.{at_each}
 use Rattle.cap_laws.proofs.numbers.ContainerNumbers.{numbers_stay_distinct}
 use Rattle.cap_laws.proofs.bounds.Formed.{step_formed}
 use Rattle.cap_laws.proofs.bounds.StepBounds.{step_bounds_nodes, step_apart, step_bounds_reservations}
@@ -17,16 +18,6 @@ module _ {K : ℕ} where
         apart = step_apart old new event b s;
         numbers = numbers_stay_distinct K old new event b.numbers s;
       }
-
-  run_bounded : (events : List (Event K)) (old new : Flat K) → IsBounded old → Run old events new → IsBounded new
-  run_bounded [] old new b run = subst IsBounded run b
-  run_bounded (event ∷ events) old new b (mid, step, run) = run_bounded events mid new (step_bounded old mid event b step) run
-
-  split_run : (first rest : List (Event K)) (old new : Flat K) → IsBounded old → Run old (first ++ rest) new → (mid : Flat K) × Run old first mid × Run mid rest new × IsBounded mid × IsBounded new
-  split_run [] rest old new b run = (old, refl, run, b, run_bounded rest old new b run)
-  split_run (event ∷ first) rest old new b (next, step, run) =
-      let r = split_run first rest next new (step_bounded old next event b step) run in
-      (r.0, (next, step, r.1), r.2, r.3, r.4)
 
 module _ (K : ℕ) where
   -- in an empty cluster nothing is used
@@ -77,7 +68,7 @@ pub step_stays_bounded : StepStaysBounded
 step_stays_bounded K old new event b s = step_bounded old new event b s
 
 pub runs_are_bounded : RunsStayBounded
-runs_are_bounded K first rest old new b run = split_run first rest old new b run
+runs_are_bounded K first rest old new b run = at_each IsBounded step_bounded first rest old new b run
 
 pub opened_is_bounded : OpenedIsBounded
 opened_is_bounded K settings t = empty_bounded K settings t

@@ -1,7 +1,8 @@
 -- A call keeps the bounds: it only takes away.
-use Rattle.cap_laws.proofs.Prelude.{◌≡◌, ℕ, ◌≤◌, Bool, true, false, List, [], ◌∷◌, refl, sym, ◌∙◌, ap, subst, inl, inr, arith, ◌==◌, filter, map, if◌then◌else◌, All, list_any, sum_by, cases_lt, or_from, nat_tests, amount, fits, Flat, App, ClusterNode, Container, Reservation, app_at, node_at, use_of, node_held, IsRising, AreApart, IsNodeBounded, IsIn, each_of, of_each, or_left, or_right, not_none, some_kept, sum_by_agree, sum_of_zeros, none_from_high, same_counts, counted, live_part, reserved_part, use_amount, use_past, held_amount, held_past, fits_amounts, amounts_fit}
+use Rattle.cap_laws.proofs.Prelude.{◌≡◌, ℕ, ◌≤◌, Bool, true, false, List, [], ◌∷◌, refl, sym, ◌∙◌, ap, subst, inl, inr, arith, ◌==◌, filter, map, if◌then◌else◌, All, list_any, sum_by, cases_lt, or_from, nat_tests, amount, fits, Flat, App, ClusterNode, Container, Reservation, app_at, node_at, use_of, node_held, IsRising, AreApart, IsNodeBounded, IsIn, each_of, of_each, or_left, or_right, some_kept, sum_by_agree, sum_of_zeros, same_counts, counted, live_part, reserved_part, use_amount, use_past, held_amount, held_past, fits_amounts, amounts_fit}
 use Rattle.cap_laws.proofs.lists.Parts.{IsPart, part_filter, part_sum}
-use Rattle.cap_laws.proofs.calls.Lessening.{IsLessened, IsSite, IsOldNode, HasPlaces, site_before}
+use Rattle.cap_laws.proofs.calls.Lessening.{IsLessened, IsSite, HasPlaces, site_before}
+use Rattle.cap_laws.proofs.lists.Tables.{used, each_after}
 
 -- some of the reservations are on different nodes too
 pub none_of_part : (n : ℕ) (rs ss : List Reservation) → IsPart rs ss → list_any (λ (s : Reservation). n == s.node) rs ≡ false → list_any (λ (s : Reservation). n == s.node) ss ≡ false
@@ -61,8 +62,14 @@ module _ {K : ℕ} (old new : Flat K) (less : IsLessened old new) (h : HasPlaces
   ]
 
   pub nodes_stay : IsRising 1 (map (λ node. node.number) old.nodes.present) old.nodes.next_node → All (IsNodeBounded old) old.nodes.present → All (IsNodeBounded new) new.nodes.present
-  nodes_stay r b = of_each (IsNodeBounded new) new.nodes.present (λ node m. by node (less.present node m))
+  nodes_stay r b =
+      of_each (IsNodeBounded new) new.nodes.present
+      (each_after (IsNodeBounded new) (λ f number total x fit. (λ i. fits (node_held new (number x i)) (total x i)) ∙ fit) (λ x number e. by x (λ k. let none = nothing x.number number k in omega (arith, none))) less.present
+      (λ x m. by x (fits_amounts (node_held old x.number) x.total (each_of (IsNodeBounded old) old.nodes.present b x m))))
     where
+      by : (x : ClusterNode) → ((k : ℕ) → amount (node_held old x.number) k ≤ amount x.total k) → IsNodeBounded new x
+      by x before = amounts_fit (node_held new x.number) x.total (λ k. let f = held_falls x.number k in let g = before k in omega (arith, f, g))
+
       nothing : (n : ℕ) → n ≡ old.nodes.next_node → (k : ℕ) → amount (node_held old n) k ≤ 0
       nothing n e k = elim (cases_lt k K) [
         | inl g ↦
@@ -73,13 +80,6 @@ module _ {K : ℕ} (old new : Flat K) (less : IsLessened old new) (h : HasPlaces
         where
           away : (c : Container) → IsIn c old.nodes.live → (x : Bool) → c.node == n ≡ x → (if x then amount c.resource k else 0) ≡ 0
           away c m true g =
-              let at : old.nodes.next_node ≤ c.node = grind (arith, nat_tests, g, e) in
-              absurd (not_none (node_at old c.node) (none_from_high (λ (x : ClusterNode). x.number) 1 old.nodes.present old.nodes.next_node c.node r at) (h c.app c.node (inl (c, m, refl, refl))).1)
+              let at : c.node ≡ n = grind (arith, nat_tests, g) in
+              absurd (omega (arith, at, e, used (λ (x : ClusterNode). x.number) old.nodes.present old.nodes.next_node c.node r (h c.app c.node (inl (c, m, refl, refl))).1))
           away c m false g = refl
-
-      by : (node : ClusterNode) → IsOldNode old node → IsNodeBounded new node
-      by node (inl (x, m, number, total)) =
-          let before : fits (node_held old node.number) node.total ≡ true = subst (λ n. fits (node_held old n) node.total ≡ true) number (subst (λ t. fits (node_held old x.number) t ≡ true) total (each_of (IsNodeBounded old) old.nodes.present b x m)) in
-          amounts_fit (node_held new node.number) node.total (λ k. let f = held_falls node.number k in let g = fits_amounts (node_held old node.number) node.total before k in omega (arith, f, g))
-      by node (inr number) =
-          amounts_fit (node_held new node.number) node.total (λ k. let f = held_falls node.number k in let g = nothing node.number number k in omega (arith, f, g))

@@ -1,9 +1,10 @@
 -- A step keeps a cluster well-formed.
-use Rattle.cap_laws.proofs.Prelude.{◌≡◌, ℕ, Bool, true, false, List, [], ◌∷◌, ◌++◌, refl, sym, ◌∙◌, ap, subst, inl, inr, Option, Some, None, IsSome, is_some, is_none, cond, not, ◌||◌, ◌==◌, find, map, option_map, bytes_eq, nat_eq, if◌then◌else◌, All, list_any, starts_with, option_map_or, QueueRow, Settings, Ask, Request, Reply, Refusal, Flat, App, ClusterNode, Container, Reservation, app_at, queue_at, is_under, has_children, submit_refusal, is_running, new_node, after_processed_allocate, is_repeated_allocate, after_processed_heartbeat, is_repeated_heartbeat, beat_of, refreshed_queue, refreshed_settings, first_of_settings, after_refresh, Replies, refused_or, refusal_of, granted_cluster, Event, Step, after_grant, after_reserve, grant_proposal, reserve_proposal, sight_of, NodeProposal, IsAdmissible, IsRising, settings_in, HasDistinctPaths, IsTree, StandBelow, IsLeaf, AreThere, IsWellFormed, StepStaysWellFormed, is_refresh, IsIn, of_filter, in_either, each_of, of_each, of_map, true_of_none, some_kept, rising_kept, rising_more, same_numbers}
+use Rattle.cap_laws.proofs.Prelude.{◌≡◌, ℕ, Bool, false, List, [], ◌∷◌, ◌++◌, refl, sym, ◌∙◌, ap, subst, inl, inr, Option, Some, None, IsSome, is_some, is_none, not, ◌||◌, ◌==◌, find, map, option_map, bytes_eq, nat_eq, if◌then◌else◌, All, list_any, starts_with, option_map_or, QueueRow, Settings, Request, Reply, Refusal, Flat, App, Container, Reservation, app_at, queue_at, is_under, has_children, submit_refusal, is_running, refreshed_queue, refreshed_settings, first_of_settings, after_refresh, Event, Step, after_grant, after_reserve, grant_proposal, reserve_proposal, sight_of, NodeProposal, IsAdmissible, settings_in, HasDistinctPaths, IsTree, StandBelow, IsLeaf, AreThere, IsWellFormed, StepStaysWellFormed, is_refresh, refreshes, kept_if, after_set_queue_state, of_filter, in_either, each_of, of_each, of_map, true_of_none, some_kept}
 use Rattle.cap_laws.proofs.choice.Reasons.{none_holds}
-use Rattle.cap_laws.proofs.calls.Moves.{AppsMove, call_moves, grant_change, no_change}
-use Rattle.cap_laws.proofs.numbers.AppNumbers.{app_numbers_move}
-use Rattle.cap_laws.proofs.calls.Lessening.{HasPlaces, IsSite, lessened, asked, change_stands}
+use Rattle.cap_laws.proofs.lists.Tables.{numbers_move, each_after}
+use Rattle.cap_laws.proofs.calls.Steps.{Effect, by_step}
+use Rattle.cap_laws.proofs.calls.Moves.{AppsMove, NodesMove, asked, grant_change, step_moves, step_nodes}
+use Rattle.cap_laws.proofs.calls.Lessening.{HasPlaces, IsSite, lessened, change_stands}
 use Rattle.cap_laws.proofs.bounds.CallBounds.{places_stay}
 use Rattle.cap_laws.proofs.choice.Proposers.{seen_is, node_seen}
 use Rattle.cap_laws.proofs.calls.Refreshing.{find_kept, refreshed_path}
@@ -78,42 +79,27 @@ module _ {K : ℕ} where
   pub same_paths : (old new : Flat K) → new.settings ≡ old.settings → HasSamePaths old new
   same_paths old new e = paths_of old new (same_queues old new e)
 
-  allocate_queues : (old : Flat K) (n id : ℕ) (asks : List Ask) (releases : List ℕ) (b : Bool) → HasSameQueues old (cond b old (after_processed_allocate old n id asks releases))
-  allocate_queues old n id asks releases true = same_queues old old refl
-  allocate_queues old n id asks releases false = same_queues old (after_processed_allocate old n id asks releases) (asked n asks old).settings
-
-  beat_queues : (old : Flat K) (n id : ℕ) (ended : List ℕ) (b : Bool) → HasSameQueues old (cond b old (after_processed_heartbeat old n id ended))
-  beat_queues old n id ended true = same_queues old old refl
-  beat_queues old n id ended false = same_queues old (after_processed_heartbeat old n id ended) refl
+  -- a queue is started or stopped
+  state_queues : (old : Flat K) (path : List ℕ) (running : Bool) → HasSameQueues old (after_set_queue_state old path running)
+  state_queues old path running =
+      let set : QueueRow → QueueRow = λ q. record q { running = running } in
+      record {
+        change = λ q. if bytes_eq q.path path then set q else q;
+        keeps = record {
+          path = λ q. kept_if (bytes_eq q.path path) (λ (x : QueueRow). x.path) (set q) q refl;
+          guaranteed = λ q. kept_if (bytes_eq q.path path) (λ (x : QueueRow). x.guaranteed) (set q) q refl;
+          maximum = λ q. kept_if (bytes_eq q.path path) (λ (x : QueueRow). x.maximum) (set q) q refl;
+          factor = λ q. kept_if (bytes_eq q.path path) (λ (x : QueueRow). x.factor) (set q) q refl;
+        };
+        queues = refl;
+      }
 
   -- a call that is no Refresh
-  pub call_queues : (old : Flat K) (request : Request K) → is_refresh request ≡ false → HasSameQueues old (granted_cluster old request)
-  call_queues old (Request.Allocate app id asks releases) e = allocate_queues old app id asks releases (is_repeated_allocate old app id)
-  call_queues old (Request.Heartbeat node id ended) e = beat_queues old node id ended (is_repeated_heartbeat old node id)
-  call_queues old (Request.SetQueueState path running) e = record {
-    change = λ q. if bytes_eq q.path path then record q { running = running } else q;
-    keeps = record {
-      path = λ q. same (bytes_eq q.path path) q (λ (x : QueueRow). x.path) refl;
-      guaranteed = λ q. same (bytes_eq q.path path) q (λ (x : QueueRow). x.guaranteed) refl;
-      maximum = λ q. same_maximum (bytes_eq q.path path) q;
-      factor = λ q. same_factor (bytes_eq q.path path) q;
-    };
-    queues = refl;
-  }
-    where
-      same : (b : Bool) (q : QueueRow) (g : QueueRow → List ℕ) → g (record q { running = running }) ≡ g q → g (cond b (record q { running = running }) q) ≡ g q
-      same true q g e = e
-      same false q g e = refl
-
-      same_maximum : (b : Bool) (q : QueueRow) → (cond b (record q { running = running }) q).maximum ≡ q.maximum
-      same_maximum true q = refl
-      same_maximum false q = refl
-
-      same_factor : (b : Bool) (q : QueueRow) → (cond b (record q { running = running }) q).factor ≡ q.factor
-      same_factor true q = refl
-      same_factor false q = refl
-  call_queues old (Request.Refresh text) e = absurd (cc e)
-  call_queues old request e = same_queues old (granted_cluster old request) refl
+  call_queues : (old new : Flat K) {request : Request K} {reply : Reply K} → is_refresh request ≡ false → Effect old request reply new → HasSameQueues old new
+  call_queues old new e (Effect.allocate app id asks releases there fresh) = same_queues old new (asked app asks old).settings
+  call_queues old new e (Effect.set_queue_state path running) = state_queues old path running
+  call_queues old new e (Effect.refresh text) = absurd (cc e)
+  call_queues old new e _ = same_queues old new refl
 
   -- a Refresh sets all but the path of each queue
   refresh_paths : (old : Flat K) (text : List ℕ) → HasSamePaths old (after_refresh old text)
@@ -125,9 +111,22 @@ module _ {K : ℕ} where
           let rows = (first_of_settings K settings).queues in
           record { change = refreshed_queue rows; path = refreshed_path rows; queues = refl }
 
-  call_paths : (old : Flat K) (request : Request K) → HasSamePaths old (granted_cluster old request)
-  call_paths old (Request.Refresh text) = refresh_paths old text
-  call_paths old request = paths_of old (granted_cluster old request) (call_queues old request refl)
+  call_paths : (old new : Flat K) {request : Request K} {reply : Reply K} → Effect old request reply new → HasSamePaths old new
+  call_paths old new (Effect.allocate app id asks releases there fresh) = same_paths old new (asked app asks old).settings
+  call_paths old new (Effect.set_queue_state path running) = paths_of old new (state_queues old path running)
+  call_paths old new (Effect.refresh text) = refresh_paths old text
+  call_paths old new _ = same_paths old new refl
+
+  -- a step that is no Refresh keeps the queues, and each step keeps their paths
+  pub step_queues : (old new : Flat K) (event : Event K) → refreshes event ≡ false → Step old event new → HasSameQueues old new
+  step_queues old new event e s =
+      by_step old (λ event x. refreshes event ≡ false → HasSameQueues old x) (λ by request reply x call e. call_queues old x e call) (λ c admissible number e. same_queues old (after_grant old c) refl)
+      (λ r admissible e. same_queues old (after_reserve old r) refl) event new s e
+
+  step_paths : (old new : Flat K) (event : Event K) → Step old event new → HasSamePaths old new
+  step_paths old new event s =
+      by_step old (λ event x. HasSamePaths old x) (λ by request reply x call. call_paths old x call) (λ c admissible number. same_paths old (after_grant old c) refl)
+      (λ r admissible. same_paths old (after_reserve old r) refl) event new s
 
   leaf_kept : (old new : Flat K) → HasSamePaths old new → (path : List ℕ) → IsLeaf old path → IsLeaf new path
   leaf_kept old new s path l = record {
@@ -150,54 +149,11 @@ module _ {K : ℕ} where
       record { present = true_of_none (queue_at old path) tests.0; childless = tests.1.0 }
 
   leaves_move : (old new : Flat K) → HasSamePaths old new → AppsMove old new → All (λ app. IsLeaf old app.leaf) old.apps.active → All (λ app. IsLeaf new app.leaf) new.apps.active
-  leaves_move old new s (AppsMove.change m) a =
+  leaves_move old new s m leaves =
       of_each (λ app. IsLeaf new app.leaf) new.apps.active
-      (λ app g.
-      let w = of_map m.change old.apps.active app (subst (λ xs. IsIn app xs) m.active g) in
-      let leaf : (w.0).leaf ≡ app.leaf = sym (m.keeps.leaf (w.0)) ∙ ap (λ (x : App). x.leaf) (w.2) in
-      leaf_kept old new s app.leaf (subst (λ p. IsLeaf old p) leaf (each_of (λ app. IsLeaf old app.leaf) old.apps.active a (w.0) (w.1))))
-  leaves_move old new s (AppsMove.goes m) a =
-      of_each (λ app. IsLeaf new app.leaf) new.apps.active
-      (λ app g.
-      let w = of_filter (λ (x : App). not (x.number == m.number)) old.apps.active app (subst (λ xs. IsIn app xs) m.active g) in
-      leaf_kept old new s app.leaf (each_of (λ app. IsLeaf old app.leaf) old.apps.active a app (w.1)))
-  leaves_move old new s (AppsMove.comes m) a =
-      of_each (λ app. IsLeaf new app.leaf) new.apps.active
-      (λ app g. elim (in_either app old.apps.active (m.app ∷ []) (subst (λ xs. IsIn app xs) m.active g)) [
-        | inl h ↦ leaf_kept old new s app.leaf (each_of (λ app. IsLeaf old app.leaf) old.apps.active a app h)
-        | inr (inl e) ↦ leaf_kept old new s app.leaf (subst (λ (x : App). IsLeaf old x.leaf) e (unrefused_leaf old m.app.leaf m.unrefused))
-        | inr (inr h) ↦ absurd h
-      ])
-
-  -- node numbers
-  abbrev pub HasNodeNumbers : Flat K → Type 0
-  HasNodeNumbers cluster = IsRising 1 (map (λ node. node.number) cluster.nodes.present) cluster.nodes.next_node
-
-  allocate_nodes : (old : Flat K) (n id : ℕ) (asks : List Ask) (releases : List ℕ) (b : Bool) → HasNodeNumbers old → HasNodeNumbers (cond b old (after_processed_allocate old n id asks releases))
-  allocate_nodes old n id asks releases true r = r
-  allocate_nodes old n id asks releases false r =
-      let a = asked n asks old in
-      subst (λ h. IsRising 1 (map (λ (node : ClusterNode). node.number) (after_processed_allocate old n id asks releases).nodes.present) h) (sym a.next_node)
-      (subst (λ xs. IsRising 1 (map (λ (node : ClusterNode). node.number) xs) old.nodes.next_node) (sym a.present) r)
-
-  beat_nodes : (old : Flat K) (n id : ℕ) (ended : List ℕ) (b : Bool) → HasNodeNumbers old → HasNodeNumbers (cond b old (after_processed_heartbeat old n id ended))
-  beat_nodes old n id ended true r = r
-  beat_nodes old n id ended false r =
-      subst (λ ns. IsRising 1 ns old.nodes.next_node) (sym (same_numbers (λ (node : ClusterNode). node.number) beaten (λ x. by (x.number == n) x) old.nodes.present)) r
-    where
-      beaten : ClusterNode → ClusterNode
-      beaten node = if node.number == n then record node { response = (beat_of old n id ended).response; kept = Some (beat_of old n id ended) } else node
-
-      by : (b : Bool) (x : ClusterNode) → (cond b (record x { response = (beat_of old n id ended).response; kept = Some (beat_of old n id ended) }) x).number ≡ x.number
-      by true x = refl
-      by false x = refl
-
-  call_nodes : (old : Flat K) (request : Request K) → HasNodeNumbers old → HasNodeNumbers (granted_cluster old request)
-  call_nodes old (Request.Allocate app id asks releases) r = allocate_nodes old app id asks releases (is_repeated_allocate old app id) r
-  call_nodes old (Request.RegisterNode host rack total) r = rising_more (λ (node : ClusterNode). node.number) 1 old.nodes.present (new_node old.nodes.next_node host rack total) old.nodes.next_node refl r
-  call_nodes old (Request.Heartbeat node id ended) r = beat_nodes old node id ended (is_repeated_heartbeat old node id) r
-  call_nodes old (Request.NodeGone m) r = rising_kept (λ (node : ClusterNode). node.number) (λ node. not (node.number == m)) 1 old.nodes.present old.nodes.next_node r
-  call_nodes old _ r = r
+      (λ app g. leaf_kept old new s app.leaf
+      (each_after (λ (a : App). IsLeaf old a.leaf) (λ f number k a leaf. subst (IsLeaf old) (sym (k.leaf a)) leaf) (λ a number e. unrefused_leaf old a.leaf e) m
+      (each_of (λ app. IsLeaf old app.leaf) old.apps.active leaves) app g))
 
   -- places
   pub places_of : (cluster : Flat K) → IsWellFormed cluster → HasPlaces cluster
@@ -213,31 +169,16 @@ module _ {K : ℕ} where
   reserved_placed cluster h = of_each (λ (r : Reservation). AreThere cluster r.app r.node) cluster.nodes.reserved (λ r m. h r.app r.node (inr (r, m, refl, refl)))
 
   -- the parts together
-  pub formed : (old new : Flat K) → IsWellFormed old → HasSamePaths old new → AppsMove old new → HasNodeNumbers new → HasPlaces new → IsWellFormed new
+  pub formed : (old new : Flat K) → IsWellFormed old → HasSamePaths old new → AppsMove old new → NodesMove old new → HasPlaces new → IsWellFormed new
   formed old new w s m n h = record {
     tree = subst (λ qs. IsTree qs) (sym s.queues) (tree_kept s.change s.path old.settings.queues w.tree);
     order = subst (λ qs. StandBelow qs) (sym s.queues) (order_kept s.change s.path old.settings.queues w.order);
     leaves = leaves_move old new s m w.leaves;
-    apps = app_numbers_move old new m w.apps;
-    nodes = n;
+    apps = numbers_move m w.apps;
+    nodes = numbers_move n w.nodes;
     live = live_placed new h;
     reserved = reserved_placed new h;
   }
-
-  -- what holds of a cluster, and after a call where it is not refused, holds after the call
-  pub after_call : (P : Flat K → Type 0) (old : Flat K) → P old → (request : Request K) → (refusal_of old request ≡ None → P (granted_cluster old request)) →
-      (new : Flat K) (reply : Reply K) → Replies old request reply new → P new
-  after_call P old h request f new reply (inl r) = subst P (sym (r.1)) (by (refusal_of old request) refl)
-    where
-      by : (o : Option Refusal) → refusal_of old request ≡ o → P (refused_or o (λ refusal. old) (granted_cluster old request))
-      by None e = f e
-      by (Some refusal) e = h
-  after_call P old h request f new reply (inr r) = subst P (sym (r.1)) h
-
-  call_formed : (old : Flat K) → IsWellFormed old → (request : Request K) → refusal_of old request ≡ None → IsWellFormed (granted_cluster old request)
-  call_formed old w request e =
-      formed old (granted_cluster old request) w (call_paths old request) (call_moves old request e) (call_nodes old request w.nodes)
-      (places_stay old (granted_cluster old request) (lessened old (places_of old w) request) (places_of old w))
 
   -- the application and the node of an admissible proposal
   pub its_place : (old : Flat K) (p : NodeProposal) → IsWellFormed old → IsAdmissible (sight_of old) p → AreThere old p.app p.node
@@ -271,15 +212,14 @@ module _ {K : ℕ} where
     | inr (inr g) ↦ absurd g
   ]
 
+  step_places : (old new : Flat K) (event : Event K) → IsWellFormed old → Step old event new → HasPlaces new
+  step_places old new event w s =
+      let h = places_of old w in
+      by_step old (λ e x. HasPlaces x) (λ by request reply x call. places_stay old x (lessened old x h call) h)
+      (λ c admissible number. grant_places old c h (its_place old (grant_proposal c) w admissible)) (λ r admissible. reserve_places old r h (its_place old (reserve_proposal r) w admissible)) event new s
+
   pub step_formed : (old new : Flat K) (event : Event K) → IsWellFormed old → Step old event new → IsWellFormed new
-  step_formed old new (Event.Call by request reply) w s = after_call IsWellFormed old w request (call_formed old w request) new reply s
-  step_formed old new (Event.Grant c) w (admissible, number, after) =
-      subst IsWellFormed (sym after)
-      (formed old (after_grant old c) w (same_paths old (after_grant old c) refl) (AppsMove.change (grant_change old c)) w.nodes (grant_places old c (places_of old w) (its_place old (grant_proposal c) w admissible)))
-  step_formed old new (Event.Reserve r) w (admissible, after) =
-      subst IsWellFormed (sym after)
-      (formed old (after_reserve old r) w (same_paths old (after_reserve old r) refl) (AppsMove.change (no_change old (after_reserve old r) refl refl)) w.nodes
-      (reserve_places old r (places_of old w) (its_place old (reserve_proposal r) w admissible)))
+  step_formed old new event w s = formed old new w (step_paths old new event s) (step_moves old new event s) (step_nodes old new event s) (step_places old new event w s)
 
 pub step_stays_well_formed : StepStaysWellFormed
 step_stays_well_formed K old new event w step = step_formed old new event w step

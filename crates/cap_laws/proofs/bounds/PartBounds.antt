@@ -1,7 +1,7 @@
 -- A part of a call keeps the bounds: it only takes away from what is used.
-use Rattle.cap_laws.proofs.Prelude.{◌≡◌, ℕ, List, refl, sym, subst, not, map, option_map_or, Ask, Cause, Flat, App, ClusterNode, Container, app_at, is_for, with_app, after_ask, put_ask, reservations_left, is_among, with_ends, after_ends, after_telling, IsRising, IsReservationBounded, IsBounded, EndsStayBounded, AskStaysBounded, ReportStaysBounded, of_each}
+use Rattle.cap_laws.proofs.Prelude.{◌≡◌, ℕ, List, refl, not, option_map_or, Ask, Cause, Flat, App, Container, app_at, is_for, with_app, after_ask, put_ask, reservations_left, is_among, with_ends, after_ends, after_telling, IsReservationBounded, IsBounded, EndsStayBounded, AskStaysBounded, ReportStaysBounded, of_each}
 use Rattle.cap_laws.proofs.lists.Parts.{IsPart, part_itself, part_keep_first}
-use Rattle.cap_laws.proofs.calls.Moves.{AppsChange, AppsMove, one_change, ends_change}
+use Rattle.cap_laws.proofs.calls.Moves.{AppsChange, apps_change, one_change, ends_change}
 use Rattle.cap_laws.proofs.numbers.ContainerNumbers.{IsThinned, thinned_same, thinned_numbers}
 use Rattle.cap_laws.proofs.calls.Lessening.{only_apps}
 use Rattle.cap_laws.proofs.bounds.CallBounds.{places_stay, nodes_stay, apart_part}
@@ -23,12 +23,9 @@ module _ {K : ℕ} where
 
   part_bounded : (old new : Flat K) → IsBounded old → IsCallPart old new → IsBounded new
   part_bounded old new b p =
-      let less = only_apps old new p.apps p.live p.reserved p.present in
+      let less = only_apps old new p.apps p.live p.reserved p.present p.next_node in
       let h = places_of old b.formed in
-      let numbers =
-      subst (λ n. IsRising 1 (map (λ (node : ClusterNode). node.number) new.nodes.present) n) (sym p.next_node)
-      (subst (λ xs. IsRising 1 (map (λ (node : ClusterNode). node.number) xs) old.nodes.next_node) (sym p.present) b.formed.nodes) in
-      let w = formed old new b.formed (same_paths old new p.settings) (AppsMove.change p.apps) numbers (places_stay old new less h) in
+      let w = formed old new b.formed (same_paths old new p.settings) (apps_change old new p.apps) less.present (places_stay old new less h) in
       record {
         formed = w;
         parents = trees_add_up K new w;
@@ -52,7 +49,7 @@ module _ {K : ℕ} where
         next_node = refl;
         live = thinned;
         reserved = whole;
-        wanted = asks_same old new (only_apps old new change thinned whole refl)
+        wanted = asks_same old new (only_apps old new change thinned whole refl refl)
             (λ app node s. asking_at (with_ends cause gone) (λ a. refl) (λ a. refl) app old.apps.active) (each_bounded old b);
       }
 
@@ -85,7 +82,7 @@ module _ {K : ℕ} where
         next_node = refl;
         live = thinned;
         reserved = whole;
-        wanted = asks_same old new (only_apps old new change thinned whole refl)
+        wanted = asks_same old new (only_apps old new change thinned whole refl refl)
             (λ app node s. asking_one n (after_telling id ignored) (λ a. refl) (λ a. refl) app old.apps.active) (each_bounded old b);
       }
 

@@ -1,5 +1,5 @@
 -- A grant and a reservation keep reservations bounded.
-use Rattle.cap_laws.proofs.Prelude.{◌≡◌, ℕ, ◌+◌, ◌-◌, ◌≤◌, Bool, true, false, List, [], ◌∷◌, ◌++◌, refl, sym, ◌∙◌, ap, subst, inl, inr, arith, ◌⊎◌, Option, Some, None, IsSome, cond, not, ◌&&◌, ◌||◌, ◌==◌, filter, find, length, option_map, unwrap_or, if◌then◌else◌, list_any, sum_by, nat_tests, sum_by_push, length-filter, sum_by-filter_both, list_any-append, holds_of, fits, Key, same_key, Ask, Flat, App, ClusterNode, Container, Reservation, app_at, node_at, is_for, ask_at, reservation_on, NodeSight, sight_of, node_sight, seen_node, NodeProposal, is_wanted, is_reserved_for, node_reservation, fits_total, AreApart, reservations_for, AreThere, after_grant, after_reserve, take_one, news_of, grant_proposal, reserve_proposal, IsIn, found, of_filter, in_filter, in_either, or_from, and_from, cases_Bool, find_changed, one_where, same_key_itself, one_less, one_less_found, other_ask_stays}
+use Rattle.cap_laws.proofs.Prelude.{◌≡◌, ℕ, ◌+◌, ◌-◌, ◌≤◌, Bool, true, false, List, [], ◌∷◌, ◌++◌, refl, sym, ◌∙◌, ap, subst, inl, inr, arith, ◌⊎◌, Option, Some, None, IsSome, cond, not, ◌&&◌, ◌||◌, ◌==◌, filter, find, option_map, unwrap_or, if◌then◌else◌, list_any, nat_tests, sum_by_push, length-filter, sum_by-filter_both, list_any-append, holds_of, fits, Key, same_key, Ask, Flat, App, ClusterNode, Container, Reservation, app_at, node_at, is_for, ask_at, reservation_on, NodeSight, sight_of, node_sight, seen_node, NodeProposal, is_wanted, is_reserved_for, node_reservation, fits_total, AreApart, reservations_for, AreThere, after_grant, after_reserve, take_one, news_of, grant_proposal, reserve_proposal, IsIn, found, of_filter, in_filter, in_either, or_from, and_from, cases_Bool, find_changed, one_where, same_key_itself, one_less, one_less_found, other_ask_stays}
 use Rattle.cap_laws.proofs.lists.Parts.{part_filter}
 use Rattle.cap_laws.proofs.choice.Proposers.{IsSeen, node_seen, held_for}
 use Rattle.cap_laws.proofs.bounds.Reserving.{AreBounded, IsEnough, enough_is, is_enough, fewer_left, one_left, for_it, same_reservations}

@@ -1,11 +1,12 @@
 -- Limits stay met but for a Refresh, and after each run they are met or nothing has risen since they were.
-use Rattle.cap_laws.proofs.Prelude.{◌≡◌, ℕ, ◌≤◌, Bool, true, false, List, [], ◌∷◌, ◌++◌, refl, sym, ◌∙◌, ap, subst, inl, inr, arith, ◌⊎◌, Option, Some, None, IfSome, find, option_map, bytes_eq, All, list_any, cases_Bool, append_assoc, append-nil, bytes_eq-Decides, amount, QueueRow, fits, times, fits_amounts, amounts_fit, IsIn, found, each_of, of_each, or_left, or_right, Flat, app_at, queue_at, use_of, queue_use, user_use, granted_cluster, sight_of, NodeProposal, IsWithinLimits, Event, Step, Run, after_grant, after_reserve, grant_proposal, reserve_proposal, FitsMaximum, IsQueueBounded, IsWellFormed, IsBounded, in_queue, of_user, raises, QuietRun, NotRisen, MeetsMaximum, MeetsUserLimit, LimitsAreMetOrNotRisen, counts, refreshes, LimitsStayMet, QueuesStayBounded, QuietRunsRaiseNothing, LimitsOverRuns}
+use Rattle.cap_laws.proofs.Prelude.{◌≡◌, ℕ, ◌≤◌, Bool, true, false, List, [], ◌∷◌, ◌++◌, refl, sym, ◌∙◌, ap, subst, inl, inr, arith, ◌⊎◌, Option, Some, None, IfSome, find, option_map, bytes_eq, All, list_any, cases_Bool, append_assoc, append-nil, bytes_eq-Decides, amount, QueueRow, fits, times, fits_amounts, amounts_fit, IsIn, found, each_of, of_each, or_left, or_right, Flat, app_at, queue_at, use_of, queue_use, user_use, sight_of, NodeProposal, IsWithinLimits, Event, Step, Run, after_grant, after_reserve, grant_proposal, reserve_proposal, FitsMaximum, IsQueueBounded, IsWellFormed, IsBounded, in_queue, of_user, raises, QuietRun, NotRisen, MeetsMaximum, MeetsUserLimit, LimitsAreMetOrNotRisen, counts, refreshes, LimitsStayMet, QueuesStayBounded, QuietRunsRaiseNothing, LimitsOverRuns}
+use Rattle.cap_laws.proofs.calls.Steps.{by_step}
 use Rattle.cap_laws.proofs.calls.Lessening.{lessened}
 use Rattle.cap_laws.proofs.calls.Refreshing.{find_kept}
 use Rattle.cap_laws.proofs.choice.Proposers.{found_by_path}
 use Rattle.cap_laws.proofs.bounds.BoundedRuns.{runs_are_bounded}
 use Rattle.cap_laws.proofs.bounds.CallBounds.{use_falls}
-use Rattle.cap_laws.proofs.bounds.Formed.{KeepsQueue, HasSameQueues, same_queues, call_queues, places_of, after_call, step_formed}
+use Rattle.cap_laws.proofs.bounds.Formed.{KeepsQueue, HasSameQueues, step_queues, places_of, step_formed}
 use Rattle.cap_laws.proofs.bounds.Growing.{IsGrown, grant_grows, reserve_grows, not_grown, maximum_met, limit_met}
 
 -- what is at most what fits, fits
@@ -35,13 +36,11 @@ module _ {K : ℕ} where
 
   -- at a step that raises nothing of it, a use stays or falls
   step_no_more : (test : List ℕ → List ℕ → Bool) (old new : Flat K) (event : Event K) → IsWellFormed old → Step old event new → raises test old event ≡ false → IsNoMore test old new
-  step_no_more test old new (Event.Call by request reply) w s r =
+  step_no_more test old new event w s r =
       let h = places_of old w in
-      after_call (IsNoMore test old) old (λ k. omega arith) request (λ e. use_falls old (granted_cluster old request) (lessened old h request) h test) new reply s
-  step_no_more test old new (Event.Grant c) w (admissible, number, after) r =
-      subst (IsNoMore test old) (sym after) (not_grown old (after_grant old c) (grant_proposal c) (grant_grows old c) test r)
-  step_no_more test old new (Event.Reserve x) w (admissible, after) r =
-      subst (IsNoMore test old) (sym after) (not_grown old (after_reserve old x) (reserve_proposal x) (reserve_grows old x) test r)
+      by_step old (λ e x. raises test old e ≡ false → IsNoMore test old x) (λ by request reply x call r. use_falls old x (lessened old x h call) h test)
+      (λ c admissible number r. not_grown old (after_grant old c) (grant_proposal c) (grant_grows old c) test r)
+      (λ x admissible r. not_grown old (after_reserve old x) (reserve_proposal x) (reserve_grows old x) test r) event new s r
 
   run_no_more : (test : List ℕ → List ℕ → Bool) (events : List (Event K)) (old new : Flat K) → IsWellFormed old → QuietRun test old events new → IsNoMore test old new
   run_no_more test [] old new w q = subst (IsNoMore test old) q (λ k. omega arith)
@@ -73,12 +72,6 @@ module _ {K : ℕ} where
     same = λ f k q i. Some (times (k.factor q i) (k.guaranteed q i));
   }
 
-  -- a step that is no Refresh keeps the limits themselves
-  step_queues : (old new : Flat K) (event : Event K) → refreshes event ≡ false → Step old event new → HasSameQueues old new
-  step_queues old new (Event.Call by request reply) e s = after_call (HasSameQueues old) old (same_queues old old refl) request (λ h. call_queues old request e) new reply s
-  step_queues old new (Event.Grant c) e (admissible, number, after) = subst (HasSameQueues old) (sym after) (same_queues old (after_grant old c) refl)
-  step_queues old new (Event.Reserve r) e (admissible, after) = subst (HasSameQueues old) (sym after) (same_queues old (after_reserve old r) refl)
-
   module _ (test : List ℕ → List ℕ → Bool) (most : QueueRow → Option (List ℕ)) (path : List ℕ) where
     -- where there is a queue of that path, its limit is met
     abbrev Meets : Flat K → Type 0
@@ -103,11 +96,10 @@ module _ {K : ℕ} where
 
     -- what counts leaves the limit met, whatever it was before
     raised : (old new : Flat K) (event : Event K) → IsLimit K test most path → IsWellFormed old → Step old event new → raises test old event ≡ true → Meets new
-    raised old new (Event.Call by request reply) l w s r = absurd (cc r)
-    raised old new (Event.Grant c) l w (admissible, number, after) r =
-        subst Meets (sym after) (meets (after_grant old c) (λ q m at. l.met old (after_grant old c) (grant_proposal c) (grant_grows old c) w (admissible.0) q m at r))
-    raised old new (Event.Reserve x) l w (admissible, after) r =
-        subst Meets (sym after) (meets (after_reserve old x) (λ q m at. l.met old (after_reserve old x) (reserve_proposal x) (reserve_grows old x) w (admissible.0) q m at r))
+    raised old new event l w s r =
+        by_step old (λ e x. raises test old e ≡ true → Meets x) (λ by request reply x call r. absurd (cc r))
+        (λ c admissible number r. meets (after_grant old c) (λ q m at. l.met old (after_grant old c) (grant_proposal c) (grant_grows old c) w (admissible.0) q m at r))
+        (λ x admissible r. meets (after_reserve old x) (λ q m at. l.met old (after_reserve old x) (reserve_proposal x) (reserve_grows old x) w (admissible.0) q m at r)) event new s r
 
     stays_met : (old new : Flat K) (event : Event K) → IsLimit K test most path → IsWellFormed old → refreshes event ≡ false → Step old event new → Meets old → Meets new
     stays_met old new event l w e s m = elim (cases_Bool (raises test old event)) [

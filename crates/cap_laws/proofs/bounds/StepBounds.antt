@@ -1,13 +1,15 @@
 -- A step from a bounded cluster keeps each bound.
-use Rattle.cap_laws.proofs.Prelude.{◌≡◌, ℕ, Bool, true, false, List, [], ◌∷◌, refl, sym, ◌∙◌, ap, subst, inr, Option, Some, None, cond, not, ◌==◌, ◌-◌, length, filter, find, map, option_map, if◌then◌else◌, All, Ask, Cause, Request, Flat, App, Reservation, app_at, containers_on, after_asks, with_ends, new_app, after_processed_allocate, after_telling, after_wishes, is_repeated_allocate, released_by, after_processed_heartbeat, is_repeated_heartbeat, ended_by, granted_cluster, Event, Step, AreApart, IsNodeBounded, IsReservationBounded, IsBounded, AreThere, NodesStayBounded, ReservationsStayApart, ReservationsStayBounded, IsIn, each_of, of_each, find_changed, find_others, find_with_more}
+use Rattle.cap_laws.proofs.Prelude.{◌≡◌, ℕ, Bool, true, false, List, [], ◌∷◌, refl, ◌∙◌, ap, inr, Option, Some, None, cond, not, ◌==◌, ◌-◌, length, filter, find, map, option_map, if◌then◌else◌, All, Ask, Cause, Request, Reply, Flat, App, Reservation, app_at, containers_on, after_asks, with_ends, new_app, after_processed_allocate, after_telling, after_wishes, released_by, ended_by, Event, Step, AreApart, IsNodeBounded, IsReservationBounded, IsBounded, AreThere, NodesStayBounded, ReservationsStayApart, ReservationsStayBounded, each_of, of_each, find_changed, find_others, find_with_more}
 use Rattle.cap_laws.proofs.lists.Parts.{part_itself, part_filter}
-use Rattle.cap_laws.proofs.calls.Lessening.{HasPlaces, IsSite, IsLessened, lessened, gone_app}
+use Rattle.cap_laws.proofs.calls.Steps.{Effect, by_step}
+use Rattle.cap_laws.proofs.calls.Moves.{gone_app}
+use Rattle.cap_laws.proofs.calls.Lessening.{HasPlaces, IsSite, IsLessened, lessened, call_part}
 use Rattle.cap_laws.proofs.bounds.CallBounds.{nodes_stay, apart_part}
 use Rattle.cap_laws.proofs.choice.Proposers.{seen_is}
 use Rattle.cap_laws.proofs.bounds.Growing.{nodes_grow}
 use Rattle.cap_laws.proofs.bounds.Reserving.{asking, AreBounded, carried, asks_keep}
 use Rattle.cap_laws.proofs.bounds.ReservedAfter.{reserve_keeps, grant_keeps, reserve_apart}
-use Rattle.cap_laws.proofs.bounds.Formed.{places_of, after_call}
+use Rattle.cap_laws.proofs.bounds.Formed.{places_of}
 
 asking_kept : (f : App → App) → ((a : App) → (f a).asks ≡ a.asks) → (o : Option App) → asking (option_map f o) ≡ asking o
 asking_kept f e None = refl
@@ -40,9 +42,8 @@ module _ {K : ℕ} where
   pub asks_same : (old new : Flat K) → IsLessened old new → ((app node : ℕ) → IsSite new app node → asking (app_at new app) ≡ asking (app_at old app)) → AreBounded old → AreBounded new
   asks_same old new l f b = carried old new l.reserved (λ r m. f r.app r.node (inr (r, m, refl, refl))) (λ r m. l.nodes r.app r.node (inr (r, m, refl, refl))) b
 
-  allocate_keeps : (old : Flat K) (n id : ℕ) (asks : List Ask) (releases : List ℕ) (b : Bool) → AreBounded old → AreBounded (cond b old (after_processed_allocate old n id asks releases))
-  allocate_keeps old n id asks releases true b = b
-  allocate_keeps old n id asks releases false b =
+  allocate_keeps : (old : Flat K) (n id : ℕ) (asks : List Ask) (releases : List ℕ) → AreBounded old → AreBounded (after_processed_allocate old n id asks releases)
+  allocate_keeps old n id asks releases b =
       let x = after_asks n asks old in
       let w = after_wishes old n asks releases in
       carried x (after_processed_allocate old n id asks releases) (part_itself x.nodes.reserved)
@@ -51,61 +52,40 @@ module _ {K : ℕ} where
       ∙ asking_at (with_ends Cause.Released (released_by old n releases)) (λ a. refl) (λ a. refl) r.app x.apps.active)
       (λ r m. refl) (asks_keep n asks old b)
 
-  beat_keeps : (old : Flat K) (n id : ℕ) (ended : List ℕ) (b : Bool) → IsLessened old (cond b old (after_processed_heartbeat old n id ended)) → AreBounded old → AreBounded (cond b old (after_processed_heartbeat old n id ended))
-  beat_keeps old n id ended true l b = b
-  beat_keeps old n id ended false l b =
-      asks_same old (after_processed_heartbeat old n id ended) l (λ app node s. asking_at (with_ends Cause.EndedOnNode (ended_by old n ended)) (λ a. refl) (λ a. refl) app old.apps.active) b
-
-  call_bounds_reservations : (old : Flat K) → HasPlaces old → AreBounded old → (request : Request K) → AreBounded (granted_cluster old request)
-  call_bounds_reservations old h b (Request.Submit path user) =
-      asks_same old (granted_cluster old (Request.Submit path user)) (lessened old h (Request.Submit path user))
-      (λ app node s. ap asking (find_with_more (λ (a : App). a.number) app old.apps.active (new_app old.apps.next path user ∷ []) (h app node s).0)) b
-  call_bounds_reservations old h b (Request.RegisterMaster m) =
-      asks_same old (granted_cluster old (Request.RegisterMaster m)) (lessened old h (Request.RegisterMaster m))
-      (λ app node s. asking_one m (λ a. record a { registered = true }) (λ a. refl) (λ a. refl) app old.apps.active) b
-  call_bounds_reservations old h b (Request.Allocate app id asks releases) = allocate_keeps old app id asks releases (is_repeated_allocate old app id) b
-  call_bounds_reservations old h b (Request.FinishMaster m) =
-      asks_same old (granted_cluster old (Request.FinishMaster m)) (lessened old h (Request.FinishMaster m))
-      (λ app node s. ap asking (find_others (λ (a : App). a.number) m app (gone_app old m app node s) old.apps.active)) b
-  call_bounds_reservations old h b (Request.Heartbeat node id ended) = beat_keeps old node id ended (is_repeated_heartbeat old node id) (lessened old h (Request.Heartbeat node id ended)) b
-  call_bounds_reservations old h b (Request.NodeGone m) =
-      asks_same old (granted_cluster old (Request.NodeGone m)) (lessened old h (Request.NodeGone m))
-      (λ app node s. asking_at (with_ends Cause.NodeLost (containers_on old.nodes m)) (λ a. refl) (λ a. refl) app old.apps.active) b
-  call_bounds_reservations old h b request =
-      asks_same old (granted_cluster old request) (lessened old h request) (λ app node s. refl) b
+  call_keeps : (old new : Flat K) {request : Request K} {reply : Reply K} → HasPlaces old → AreBounded old → IsLessened old new → Effect old request reply new → AreBounded new
+  call_keeps old new h b l (Effect.submit path user e) =
+      asks_same old new l (λ app node s. ap asking (find_with_more (λ (a : App). a.number) app old.apps.active (new_app old.apps.next path user ∷ []) (h app node s).0)) b
+  call_keeps old new h b l (Effect.register_master m) = asks_same old new l (λ app node s. asking_one m (λ a. record a { registered = true }) (λ a. refl) (λ a. refl) app old.apps.active) b
+  call_keeps old new h b l (Effect.allocate app id asks releases there fresh) = allocate_keeps old app id asks releases b
+  call_keeps old new h b l (Effect.finish_master m) = asks_same old new l (λ app node s. ap asking (find_others (λ (a : App). a.number) m app (gone_app old m app node s) old.apps.active)) b
+  call_keeps old new h b l (Effect.heartbeat n id ended fresh) = asks_same old new l (λ app node s. asking_at (with_ends Cause.EndedOnNode (ended_by old n ended)) (λ a. refl) (λ a. refl) app old.apps.active) b
+  call_keeps old new h b l (Effect.node_gone m) = asks_same old new l (λ app node s. asking_at (with_ends Cause.NodeLost (containers_on old.nodes m)) (λ a. refl) (λ a. refl) app old.apps.active) b
+  call_keeps old new h b l _ = asks_same old new l (λ app node s. refl) b
 
   -- steps
 
   pub step_bounds_nodes : (old new : Flat K) (event : Event K) → IsBounded old → Step old event new → All (IsNodeBounded new) new.nodes.present
-  step_bounds_nodes old new (Event.Call by request reply) b s =
+  step_bounds_nodes old new event b s =
       let h = places_of old b.formed in
-      after_call (λ c. All (IsNodeBounded c) c.nodes.present) old b.nodes request (λ e. nodes_stay old (granted_cluster old request) (lessened old h request) h b.formed.nodes b.nodes) new reply s
-  step_bounds_nodes old new (Event.Grant c) b (admissible, number, after) =
-      subst (λ x. All (IsNodeBounded x) x.nodes.present) (sym after) (nodes_grow old b.formed.nodes c (admissible.1.0) b.nodes)
-  step_bounds_nodes old new (Event.Reserve r) b (admissible, after) = subst (λ x. All (IsNodeBounded x) x.nodes.present) (sym after) b.nodes
+      by_step old (λ e x. All (IsNodeBounded x) x.nodes.present) (λ by request reply x call. nodes_stay old x (lessened old x h call) h b.formed.nodes b.nodes)
+      (λ c admissible number. nodes_grow old b.formed.nodes c (admissible.1.0) b.nodes) (λ r admissible. b.nodes) event new s
 
   pub step_apart : (old new : Flat K) (event : Event K) → IsBounded old → Step old event new → AreApart new.nodes.reserved
-  step_apart old new (Event.Call by request reply) b s =
-      after_call (λ c. AreApart c.nodes.reserved) old b.apart request
-      (λ e. apart_part old.nodes.reserved (granted_cluster old request).nodes.reserved (lessened old (places_of old b.formed) request).reserved b.apart) new reply s
-  step_apart old new (Event.Grant c) b (admissible, number, after) =
-      subst (λ x. AreApart x.nodes.reserved) (sym after)
-      (apart_part old.nodes.reserved (filter (λ (r : Reservation). not (r.node == c.node)) old.nodes.reserved) (part_filter (λ (r : Reservation). not (r.node == c.node)) old.nodes.reserved) b.apart)
-  step_apart old new (Event.Reserve r) b (admissible, after) =
-      subst (λ x. AreApart x.nodes.reserved) (sym after) (reserve_apart old r (admissible.0).present (admissible.1.1) b.apart)
+  step_apart old new event b s =
+      by_step old (λ e x. AreApart x.nodes.reserved) (λ by request reply x call. apart_part old.nodes.reserved x.nodes.reserved (call_part old x call) b.apart)
+      (λ c admissible number.
+      apart_part old.nodes.reserved (filter (λ (r : Reservation). not (r.node == c.node)) old.nodes.reserved) (part_filter (λ (r : Reservation). not (r.node == c.node)) old.nodes.reserved) b.apart)
+      (λ r admissible. reserve_apart old r (admissible.0).present (admissible.1.1) b.apart) event new s
 
   pub step_bounds_reservations : (old new : Flat K) (event : Event K) → IsBounded old → Step old event new → All (IsReservationBounded new) new.nodes.reserved
-  step_bounds_reservations old new event b s = of_each (IsReservationBounded new) new.nodes.reserved (by event s)
-    where
-      placed : (r : Reservation) → IsIn r old.nodes.reserved → AreThere old r.app r.node
-      placed = each_of (λ (r : Reservation). AreThere old r.app r.node) old.nodes.reserved b.formed.reserved
-
-      by : (event : Event K) → Step old event new → AreBounded new
-      by (Event.Call who request reply) s = after_call AreBounded old (each_bounded old b) request (λ e. call_bounds_reservations old (places_of old b.formed) (each_bounded old b) request) new reply s
-      by (Event.Grant c) (admissible, number, after) =
-          subst AreBounded (sym after) (grant_keeps old b.apart placed (each_bounded old b) c (seen_is old b.formed.apps c.app (admissible.0).registered) (admissible.1.1))
-      by (Event.Reserve r) (admissible, after) =
-          subst AreBounded (sym after) (reserve_keeps old b.apart placed (each_bounded old b) r (seen_is old b.formed.apps r.app (admissible.0).registered) (admissible.1.0) (admissible.1.3))
+  step_bounds_reservations old new event b s =
+      let h = places_of old b.formed in
+      let each = each_bounded old b in
+      let placed = each_of (λ (r : Reservation). AreThere old r.app r.node) old.nodes.reserved b.formed.reserved in
+      of_each (IsReservationBounded new) new.nodes.reserved
+      (by_step old (λ e x. AreBounded x) (λ by request reply x call. call_keeps old x h each (lessened old x h call) call)
+      (λ c admissible number. grant_keeps old b.apart placed each c (seen_is old b.formed.apps c.app (admissible.0).registered) (admissible.1.1))
+      (λ r admissible. reserve_keeps old b.apart placed each r (seen_is old b.formed.apps r.app (admissible.0).registered) (admissible.1.0) (admissible.1.3)) event new s)
 
 pub nodes_stay_bounded : NodesStayBounded
 nodes_stay_bounded K old new event b s = step_bounds_nodes old new event b s

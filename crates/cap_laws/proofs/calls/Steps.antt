@@ -1,16 +1,28 @@
 -- What a step does, case by case: nothing, one of the effects of calls, a grant or a reservation.
-use Rattle.cap_laws.proofs.Prelude.{◌≡◌, ℕ, Bool, true, false, List, [], ◌∷◌, refl, sym, ap, subst, inl, inr, Option, Some, None, IsSome, is_none, cond, not, ◌&&◌, ◌==◌, Ask, Cause, Container, Reservation, Flat, Request, Reply, Refusal, app_at, containers_on, submit_refusal, after_submit, after_register_master, is_repeated_allocate, released_by, kept_reply, after_processed_allocate, after_finish_master, register_node_refusal, after_register_node, is_repeated_heartbeat, ended_by, after_processed_heartbeat, after_node_gone, after_set_queue_state, after_refresh, refused_or, refusal_of, granted_reply, granted_cluster, Replies, Event, Step, after_grant, after_reserve, grant_proposal, reserve_proposal, sight_of, IsAdmissible, told_grants, told_ends, new_ends, ends_of, and_false}
+use Rattle.cap_laws.proofs.Prelude.{◌≡◌, ℕ, Bool, true, false, List, [], ◌∷◌, ◌++◌, refl, sym, ◌∙◌, ap, subst, inl, inr, Option, Some, None, IsSome, is_none, cond, not, ◌&&◌, ◌==◌, if◌then◌else◌, Ask, Cause, Container, Reservation, Flat, Request, AllocateReply, Reply, Refusal, app_at, containers_on, submit_refusal, after_submit, after_register_master, is_repeated_allocate, released_by, kept_reply, after_processed_allocate, after_finish_master, register_node_refusal, after_register_node, is_repeated_heartbeat, ended_by, after_processed_heartbeat, after_node_gone, after_set_queue_state, after_refresh, refused_or, refusal_of, granted_reply, granted_cluster, Replies, Event, Step, Run, after_grant, after_reserve, grant_proposal, reserve_proposal, sight_of, IsAdmissible, and_false}
 use Rattle.cap_model.specs.declared.reply.ReplyWith.TheVariants as Reply
 
 there_if : {A R : Type 0} (o : Option A) (x : R) (rest : Option R) → cond (is_none o) (Some x) rest ≡ None → IsSome o
 there_if None x rest e = absurd (cc e)
 there_if (Some a) x rest e = refl
 
+module _ {K : ℕ} where
+  -- the reply in which an event tells an application its news: that to an allocate that repeats nothing
+  abbrev pub told_reply : Flat K → ℕ → Event K → Option AllocateReply
+  told_reply old n (Event.Call by (Request.Allocate app id asks releases) (Reply.Allocate reply)) = if app == n && not (is_repeated_allocate old app id) then Some reply else None
+  told_reply old n _ = None
+
+  -- the containers of whose ends their applications are to be told, and why they ended
+  abbrev pub gone_at : Flat K → Event K → Option (Cause × List Container)
+  gone_at old (Event.Call by (Request.Allocate app id asks releases) (Reply.Allocate reply)) = if is_repeated_allocate old app id then None else Some (Cause.Released, released_by old app releases)
+  gone_at old (Event.Call by (Request.Heartbeat node id ended) (Reply.Heartbeat reply)) = if is_repeated_heartbeat old node id then None else Some (Cause.EndedOnNode, ended_by old node ended)
+  gone_at old (Event.Call by (Request.NodeGone node) (Reply.NodeGone count)) = Some (Cause.NodeLost, containers_on old.nodes node)
+  gone_at old _ = None
+
 module _ {K : ℕ} (old : Flat K) where
   -- a call that tells no news and adds none
   abbrev pub IsQuiet : Request K → Reply K → Type 0
-  IsQuiet request reply =
-      (by n : ℕ) → (told_grants old n (Event.Call by request reply) ≡ []) × (told_ends old n (Event.Call by request reply) ≡ []) × (new_ends old n (Event.Call by request reply) ≡ [])
+  IsQuiet request reply = (by n : ℕ) → (told_reply old n (Event.Call by request reply) ≡ None) × (gone_at old (Event.Call by request reply) ≡ None)
 
   -- The effect of a call with its reply: nothing where it is refused, finds no memory, repeats the last one or only asks; and else that of
   -- one of nine calls, with what its tests say.
@@ -29,16 +41,8 @@ module _ {K : ℕ} (old : Flat K) where
     refresh : (text : List ℕ) → Effect (Request.Refresh text) Reply.Refresh (after_refresh old text)
 
   refused : (request : Request K) (refusal : Refusal) → IsQuiet request (Reply.Refused refusal)
-  refused Request.ClusterInfo refusal by n = (refl, refl, refl)
-  refused _ refusal by n = (refl, refl, refl)
-
-  untold : {A : Type 0} (a b : Bool) (xs : List A) → b ≡ true → cond (a && not b) xs [] ≡ []
-  untold a true xs e = ap (λ c. cond c xs []) (and_false a)
-  untold a false xs e = absurd (cc e)
-
-  unended : {A : Type 0} (b : Bool) (xs : List A) → b ≡ true → cond b [] xs ≡ []
-  unended true xs e = refl
-  unended false xs e = absurd (cc e)
+  refused Request.ClusterInfo refusal by n = (refl, refl)
+  refused _ refusal by n = (refl, refl)
 
   granted : (request : Request K) → refusal_of old request ≡ None → Effect request (granted_reply old request) (granted_cluster old request)
   granted (Request.Submit path user) e = Effect.submit path user e
@@ -49,7 +53,7 @@ module _ {K : ℕ} (old : Flat K) where
       after b = cond b old (after_processed_allocate old app id asks releases)
 
       by : (b : Bool) → is_repeated_allocate old app id ≡ b → Effect (Request.Allocate app id asks releases) (Reply.Allocate (kept_reply (after b) app)) (after b)
-      by true r = Effect.nothing (λ by n. (untold (app == n) _ _ r, untold (app == n) _ _ r, unended _ _ r))
+      by true r = Effect.nothing (λ by n. (ap (λ b. cond (app == n && not b) (Some (kept_reply old app)) None) r ∙ ap (λ b. cond b (Some (kept_reply old app)) None) (and_false (app == n)), ap (λ b. cond b None (Some (Cause.Released, released_by old app releases))) r))
       by false r = Effect.allocate app id asks releases (there_if (app_at old app) Refusal.UnknownApplication _ e) r
   granted (Request.FinishMaster app) e = Effect.finish_master app
   granted (Request.RegisterNode host rack total) e = Effect.register_node host rack total e
@@ -57,12 +61,12 @@ module _ {K : ℕ} (old : Flat K) where
     where
       by : (b : Bool) → is_repeated_heartbeat old node id ≡ b →
           Effect (Request.Heartbeat node id ended) (granted_reply old (Request.Heartbeat node id ended)) (cond b old (after_processed_heartbeat old node id ended))
-      by true r = Effect.nothing (λ by n. (refl, refl, unended _ _ r))
+      by true r = Effect.nothing (λ by n. (refl, ap (λ b. cond b None (Some (Cause.EndedOnNode, ended_by old node ended))) r))
       by false r = Effect.heartbeat node id ended r
   granted (Request.NodeGone node) e = Effect.node_gone node
-  granted (Request.QueueInfo path) e = Effect.nothing (λ by n. (refl, refl, refl))
+  granted (Request.QueueInfo path) e = Effect.nothing (λ by n. (refl, refl))
   granted (Request.SetQueueState path running) e = Effect.set_queue_state path running
-  granted Request.ClusterInfo e = Effect.nothing (λ by n. (refl, refl, refl))
+  granted Request.ClusterInfo e = Effect.nothing (λ by n. (refl, refl))
   granted (Request.Refresh text) e = Effect.refresh text
 
   pub effect : (request : Request K) (reply : Reply K) (new : Flat K) → Replies old request reply new → Effect request reply new
@@ -83,3 +87,15 @@ module _ {K : ℕ} (old : Flat K) where
   by_step P call grant reserve (Event.Call by request reply) new s = call by request reply new (effect request reply new s)
   by_step P call grant reserve (Event.Grant c) new (admissible, number, after) = subst (P (Event.Grant c)) (sym after) (grant c admissible number)
   by_step P call grant reserve (Event.Reserve r) new (admissible, after) = subst (P (Event.Reserve r)) (sym after) (reserve r admissible)
+
+module _ {K : ℕ} (P : Flat K → Type 0) (stays : (old new : Flat K) (event : Event K) → P old → Step old event new → P new) where
+  -- what each step keeps holds over a run, and at each of its states
+  pub over_run : (events : List (Event K)) (old new : Flat K) → P old → Run old events new → P new
+  over_run [] old new h run = subst P run h
+  over_run (event ∷ events) old new h (mid, step, run) = over_run events mid new (stays old mid event h step) run
+
+  pub at_each : (first rest : List (Event K)) (old new : Flat K) → P old → Run old (first ++ rest) new → (mid : Flat K) × Run old first mid × Run mid rest new × P mid × P new
+  at_each [] rest old new h run = (old, refl, run, h, over_run rest old new h run)
+  at_each (event ∷ first) rest old new h (next, step, run) =
+      let r = at_each first rest next new (stays old next event h step) run in
+      (r.0, (next, step, r.1), r.2, r.3, r.4)

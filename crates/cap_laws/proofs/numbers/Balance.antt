@@ -1,7 +1,8 @@
 -- What lives and what has ended is what lived and what was granted.
-use Rattle.cap_laws.proofs.Prelude.{◌≡◌, ℕ, ◌+◌, ◌≤◌, ◌<◌, Bool, true, false, List, [], ◌∷◌, ◌++◌, refl, sym, ◌∙◌, ap, subst, inl, inr, arith, Option, Some, None, cond, not, ◌||◌, ◌==◌, filter, count_by, nat_tests, append_assoc, append-nil, filter-append, list_any-append, Request, Refusal, Flat, Container, is_among, refused_or, refusal_of, granted_reply, granted_cluster, after_request, Event, Step, Run, after_event, granted_by, ever_granted, ended_between, ever_ended, is_no_memory, IsRising, container_numbers, HasDistinctNumbers, StepIsDetermined, RunLeadsToOneState, ContainersBalance, EndedOnce, LiveIsWhatWasNotEnded, IsIn, in_left, one_where, count_append, count_cons, rising_ends, rising_from_low, filter_none, filter_same, filter_twice, filter_whole, twice_not}
+use Rattle.cap_laws.proofs.Prelude.{◌≡◌, ℕ, ◌+◌, ◌≤◌, ◌<◌, Bool, true, false, List, [], ◌∷◌, ◌++◌, refl, sym, ◌∙◌, ap, subst, inl, inr, arith, Option, Some, None, cond, not, ◌||◌, ◌==◌, filter, count_by, nat_tests, append_assoc, append-nil, filter-append, list_any-append, Request, Refusal, Flat, Container, is_among, refused_or, refusal_of, granted_reply, granted_cluster, after_request, Event, Step, Run, after_event, after_grant, after_reserve, granted_by, ever_granted, ended_between, ever_ended, is_no_memory, IsRising, container_numbers, HasDistinctNumbers, StepIsDetermined, RunLeadsToOneState, ContainersBalance, EndedOnce, LiveIsWhatWasNotEnded, IsIn, in_left, one_where, count_append, count_cons, rising_ends, rising_from_low, filter_none, filter_same, filter_twice, filter_whole, twice_not}
 use Rattle.cap_model.specs.declared.reply.ReplyWith.TheVariants as Reply
-use Rattle.cap_laws.proofs.numbers.ContainerNumbers.{IsThinned, reply_thins, numbers_stay_distinct, granted_once}
+use Rattle.cap_laws.proofs.calls.Steps.{by_step}
+use Rattle.cap_laws.proofs.numbers.ContainerNumbers.{IsThinned, call_thins, numbers_stay_distinct, granted_once}
 
 -- the cluster after a step is determined by the event
 
@@ -118,23 +119,22 @@ module _ {K : ℕ} where
       ∙ filter_none (λ c. not (is_among (old.nodes.live ++ more) c)) old.nodes.live
       (λ c m. ap not (among_itself (old.nodes.live ++ more) c (in_left c old.nodes.live more m)))
 
+  -- a call ends what it takes away, and a grant and a reservation end nothing
   step_balance : (old new : Flat K) (event : Event K) → HasDistinctNumbers old → Step old event new → (test : Container → Bool) →
       count_by test new.nodes.live + count_by test (ended_between old new) ≡ count_by test old.nodes.live + count_by test (granted_by event)
-  step_balance old new (Event.Call by request reply) r s test =
-      let t = reply_thins old new request reply s in
-      let live : count_by test new.nodes.live ≡ count_by test (filter t.test old.nodes.live) = ap (count_by test) t.live in
-      let ended : count_by test (ended_between old new) ≡ count_by test (filter (λ c. not (t.test c)) old.nodes.live) = ap (count_by test) (ended_by_thinning old new r t) in
-      omega (arith, live, ended, count_parts test t.test old.nodes.live)
-  step_balance old new (Event.Grant c) r (admissible, number, after) test =
-      let same : new.nodes.live ≡ old.nodes.live ++ c ∷ [] = ap (λ (x : Flat K). x.nodes.live) after in
-      let live : count_by test new.nodes.live ≡ count_by test (old.nodes.live ++ c ∷ []) = ap (count_by test) same in
-      let ended : count_by test (ended_between old new) ≡ 0 = ap (count_by test) (none_ended old new (c ∷ []) same) in
-      omega (arith, live, ended, count_append test old.nodes.live (c ∷ []))
-  step_balance old new (Event.Reserve reservation) r (admissible, after) test =
-      let same : new.nodes.live ≡ old.nodes.live = ap (λ (x : Flat K). x.nodes.live) after in
-      let live : count_by test new.nodes.live ≡ count_by test old.nodes.live = ap (count_by test) same in
-      let ended : count_by test (ended_between old new) ≡ 0 = ap (count_by test) (none_ended old new [] (same ∙ sym (append-nil old.nodes.live))) in
-      omega (arith, live, ended)
+  step_balance old new event r s test =
+      by_step old (λ e x. count_by test x.nodes.live + count_by test (ended_between old x) ≡ count_by test old.nodes.live + count_by test (granted_by e))
+      (λ by request reply x call.
+      let t = call_thins old x call in
+      let live : count_by test x.nodes.live ≡ count_by test (filter t.test old.nodes.live) = ap (count_by test) t.live in
+      let ended : count_by test (ended_between old x) ≡ count_by test (filter (λ c. not (t.test c)) old.nodes.live) = ap (count_by test) (ended_by_thinning old x r t) in
+      omega (arith, live, ended, count_parts test t.test old.nodes.live))
+      (λ c admissible number.
+      let ended : count_by test (ended_between old (after_grant old c)) ≡ 0 = ap (count_by test) (none_ended old (after_grant old c) (c ∷ []) refl) in
+      omega (arith, ended, count_append test old.nodes.live (c ∷ [])))
+      (λ reservation admissible.
+      let ended : count_by test (ended_between old (after_reserve old reservation)) ≡ 0 = ap (count_by test) (none_ended old (after_reserve old reservation) [] (sym (append-nil old.nodes.live))) in
+      omega (arith, ended)) event new s
 
   run_balance : (events : List (Event K)) (old new : Flat K) → HasDistinctNumbers old → Run old events new → (test : Container → Bool) →
       count_by test new.nodes.live + count_by test (ever_ended old events) ≡ count_by test old.nodes.live + count_by test (ever_granted events)
@@ -190,21 +190,21 @@ module _ {K : ℕ} where
   -- after a step what lives is what lived and was granted, without what ended
   step_live : (old new : Flat K) (event : Event K) → HasDistinctNumbers old → Step old event new →
       new.nodes.live ≡ filter (λ c. not (is_among (ended_between old new) c)) (old.nodes.live ++ granted_by event)
-  step_live old new (Event.Call by request reply) r s =
-      let t = reply_thins old new request reply s in
-      let ended = ended_by_thinning old new r t in
+  step_live old new event r s =
+      by_step old (λ e x. x.nodes.live ≡ filter (λ c. not (is_among (ended_between old x) c)) (old.nodes.live ++ granted_by e))
+      (λ by request reply x call.
+      let t = call_thins old x call in
+      let ended = ended_by_thinning old x r t in
       t.live
       ∙ sym (filter_same (λ c. not (is_among (filter (λ d. not (t.test d)) old.nodes.live) c)) t.test old.nodes.live
       (λ c m. ap not (among_some (λ d. not (t.test d)) 1 old.nodes.live old.nodes.next_container c r m) ∙ twice_not (t.test c)))
-      ∙ (λ i. filter (λ c. not (is_among (sym ended i) c)) (sym (append-nil old.nodes.live) i))
-  step_live old new (Event.Grant c) r (admissible, number, after) =
-      let same : new.nodes.live ≡ old.nodes.live ++ c ∷ [] = ap (λ (x : Flat K). x.nodes.live) after in
-      same ∙ sym (filter_whole (λ d. not (is_among [] d)) (old.nodes.live ++ c ∷ []) (λ d m. refl))
-      ∙ ap (λ es. filter (λ d. not (is_among es d)) (old.nodes.live ++ c ∷ [])) (sym (none_ended old new (c ∷ []) same))
-  step_live old new (Event.Reserve reservation) r (admissible, after) =
-      let same : new.nodes.live ≡ old.nodes.live ++ [] = ap (λ (x : Flat K). x.nodes.live) after ∙ sym (append-nil old.nodes.live) in
-      same ∙ sym (filter_whole (λ d. not (is_among [] d)) (old.nodes.live ++ []) (λ d m. refl))
-      ∙ ap (λ es. filter (λ d. not (is_among es d)) (old.nodes.live ++ [])) (sym (none_ended old new [] same))
+      ∙ (λ i. filter (λ c. not (is_among (sym ended i) c)) (sym (append-nil old.nodes.live) i)))
+      (λ c admissible number. grown (after_grant old c) (c ∷ []) refl) (λ reservation admissible. grown (after_reserve old reservation) [] (sym (append-nil old.nodes.live))) event new s
+    where
+      grown : (x : Flat K) (more : List Container) → x.nodes.live ≡ old.nodes.live ++ more → x.nodes.live ≡ filter (λ c. not (is_among (ended_between old x) c)) (old.nodes.live ++ more)
+      grown x more e =
+          e ∙ sym (filter_whole (λ d. not (is_among [] d)) (old.nodes.live ++ more) (λ d m. refl))
+          ∙ ap (λ es. filter (λ d. not (is_among es d)) (old.nodes.live ++ more)) (sym (none_ended old x more e))
 
   run_live : (events : List (Event K)) (old new : Flat K) → HasDistinctNumbers old → Run old events new →
       new.nodes.live ≡ filter (λ c. not (is_among (ever_ended old events) c)) (old.nodes.live ++ ever_granted events)

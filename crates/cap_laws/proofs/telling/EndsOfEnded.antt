@@ -1,12 +1,13 @@
 -- The ends that are told are those of the containers that ended.
-use Rattle.cap_laws.proofs.Prelude.{◌≡◌, ℕ, ◌+◌, ◌<◌, Bool, true, false, List, [], ◌∷◌, refl, sym, ◌∙◌, ap, subst, inl, inr, arith, ◌⊎◌, Option, Some, None, IsSome, cond, not, ◌&&◌, ◌==◌, filter, count_by, if◌then◌else◌, nat_tests, append-nil, Ask, Cause, End, Request, Refusal, Flat, App, Container, app_at, containers_on, containers_of, is_among, after_processed_allocate, is_repeated_allocate, released_by, after_processed_heartbeat, is_repeated_heartbeat, ended_by, refused_or, refusal_of, granted_reply, granted_cluster, Event, Step, Run, after_event, ended_between, ever_ended, IsBounded, new_ends, ends_of, ever_new_ends, NewEndsAreOfTheEnded, IsIn, sum_of_zeros, one_where, count_append, count_kept, find_gone, not_none, there_or_not}
-use Rattle.cap_model.specs.declared.reply.ReplyWith.TheVariants as Reply
-use Rattle.cap_laws.proofs.numbers.ContainerNumbers.{IsThinned, asks_keep}
-use Rattle.cap_laws.proofs.numbers.Balance.{determined, none_ended, ended_by_thinning}
+use Rattle.cap_laws.proofs.Prelude.{◌≡◌, ℕ, ◌+◌, ◌<◌, Bool, true, false, List, [], ◌∷◌, refl, sym, ◌∙◌, ap, inl, inr, arith, ◌⊎◌, None, IsSome, not, ◌&&◌, ◌==◌, filter, count_by, nat_tests, append-nil, Cause, End, Request, Reply, after_grant, after_reserve, after_finish_master, Flat, App, Container, app_at, containers_on, containers_of, is_among, released_by, ended_by, Event, Step, Run, after_event, ended_between, ever_ended, IsBounded, new_ends, ends_of, ever_new_ends, NewEndsAreOfTheEnded, IsIn, sum_of_zeros, one_where, count_append, count_kept, find_gone, not_none, there_or_not}
+use Rattle.cap_laws.proofs.lists.Tables.{used, next_rises}
+use Rattle.cap_laws.proofs.calls.Steps.{Effect, by_step}
 use Rattle.cap_laws.proofs.calls.Moves.{step_moves}
-use Rattle.cap_laws.proofs.numbers.AppNumbers.{used, next_rises, never_back}
-use Rattle.cap_laws.proofs.telling.Telling.{refused_tells}
-use Rattle.cap_laws.proofs.telling.ToldRuns.{not_live, ends_nothing}
+use Rattle.cap_laws.proofs.numbers.ContainerNumbers.{asks_keep}
+use Rattle.cap_laws.proofs.numbers.Balance.{determined, none_ended, ended_by_thinning}
+use Rattle.cap_laws.proofs.numbers.AppNumbers.{never_back}
+use Rattle.cap_laws.proofs.telling.Telling.{new_of, ends, ends_told, nothing_either}
+use Rattle.cap_laws.proofs.telling.ToldRuns.{quiet, not_live, none_ends}
 use Rattle.cap_laws.proofs.bounds.BoundedRuns.{step_stays_bounded}
 use Rattle.cap_laws.proofs.ending.NamedEnds.{count_ended, count_lost, count_ends, count_of}
 
@@ -30,79 +31,43 @@ module _ (n number : ℕ) where
     still : (new : Flat K) → new.nodes.live ≡ old.nodes.live → count_by it (ended_between old new) ≡ 0
     still new e = ap (count_by it) (none_ended old new [] (e ∙ sym (append-nil old.nodes.live)))
 
-    allocate_ends : (app id : ℕ) (asks : List Ask) (releases : List ℕ) (r : Bool) →
-        told (if r then [] else ends_of Cause.Released n (released_by old app releases)) ≡ count_by it (ended_between old (cond r old (after_processed_allocate old app id asks releases)))
-    allocate_ends app id asks releases true = sym (still old refl)
-    allocate_ends app id asks releases false =
-        let gone = released_by old app releases in
-        let new = after_processed_allocate old app id asks releases in
-        let s = asks_keep app asks old in
-        let t : IsThinned old new = record { test = λ c. not (is_among gone c); live = ap (λ cs. filter (λ c. not (is_among gone c)) cs) s.live; next = s.next } in
-        count_ends Cause.Released n number gone
-        ∙ count_ended it (λ c. c.app == app) releases 1 old.nodes.live old.nodes.next_container b.numbers
-        ∙ ap (count_by it) (sym (ended_by_thinning old new b.numbers t))
-
-    beat_ends : (node id : ℕ) (ended : List ℕ) (r : Bool) →
-        told (if r then [] else ends_of Cause.EndedOnNode n (ended_by old node ended)) ≡ count_by it (ended_between old (cond r old (after_processed_heartbeat old node id ended)))
-    beat_ends node id ended true = sym (still old refl)
-    beat_ends node id ended false =
-        let gone = ended_by old node ended in
-        let new = after_processed_heartbeat old node id ended in
-        let t : IsThinned old new = record { test = λ c. not (is_among gone c); live = refl; next = refl } in
-        count_ends Cause.EndedOnNode n number gone
-        ∙ count_ended it (λ c. c.node == node) ended 1 old.nodes.live old.nodes.next_container b.numbers
-        ∙ ap (count_by it) (sym (ended_by_thinning old new b.numbers t))
-
-    lost_ends : (node : ℕ) → told (ends_of Cause.NodeLost n (containers_on old.nodes node)) ≡ count_by it (ended_between old (granted_cluster old (Request.NodeGone node)))
-    lost_ends node =
-        let gone = containers_on old.nodes node in
-        let new = granted_cluster old (Request.NodeGone node) in
-        let t : IsThinned old new = record { test = λ c. not (is_among gone c); live = refl; next = refl } in
-        count_ends Cause.NodeLost n number gone
-        ∙ count_lost it (λ c. c.node == node) 1 old.nodes.live old.nodes.next_container b.numbers
-        ∙ ap (count_by it) (sym (ended_by_thinning old new b.numbers t))
+    -- where live containers go of which some were the application's, as many are told of each number
+    gone_ends : (cause : Cause) (gone : List Container) (new : Flat K) → new.nodes.live ≡ filter (λ c. not (is_among gone c)) old.nodes.live → new.nodes.next_container ≡ old.nodes.next_container →
+        count_by it gone ≡ count_by it (filter (λ c. not (not (is_among gone c))) old.nodes.live) → told (ends_of cause n gone) ≡ count_by it (ended_between old new)
+    gone_ends cause gone new live next all =
+        count_ends cause n number gone ∙ all ∙ ap (count_by it) (sym (ended_by_thinning old new b.numbers (record { test = λ c. not (is_among gone c); live = live; next = next })))
 
     -- of an application that finishes nothing is told, and it is not there
-    finish_ends : (app : ℕ) → IsSome (app_at (granted_cluster old (Request.FinishMaster app)) n) → 0 ≡ count_by it (ended_between old (granted_cluster old (Request.FinishMaster app)))
+    finish_ends : (app : ℕ) → IsSome (app_at (after_finish_master old app) n) → 0 ≡ count_by it (ended_between old (after_finish_master old app))
     finish_ends app h =
         let gone = containers_of old.nodes app in
-        let new = granted_cluster old (Request.FinishMaster app) in
-        let t : IsThinned old new = record { test = λ c. not (is_among gone c); live = refl; next = refl } in
         sym (nobody (λ c. c.app == app) old.nodes.live other)
         ∙ count_lost it (λ c. c.app == app) 1 old.nodes.live old.nodes.next_container b.numbers
-        ∙ ap (count_by it) (sym (ended_by_thinning old new b.numbers t))
+        ∙ ap (count_by it) (sym (ended_by_thinning old (after_finish_master old app) b.numbers (record { test = λ c. not (is_among gone c); live = refl; next = refl })))
       where
         by : (e : Bool) → app == n ≡ e → app == n ≡ false
-        by true e = absurd (not_none (app_at (granted_cluster old (Request.FinishMaster app)) n) (find_gone (λ (a : App). a.number) app n e old.apps.active) h)
+        by true e = absurd (not_none (app_at (after_finish_master old app) n) (find_gone (λ (a : App). a.number) app n e old.apps.active) h)
         by false e = e
 
         other : (c : Container) → IsIn c old.nodes.live → c.app == app ≡ true → c.app == n ≡ false
         other c m e = let no = by (app == n) refl in grind (arith, nat_tests, e, no)
 
-    call_ends : (by : ℕ) (request : Request K) → IsSome (app_at (granted_cluster old request) n) → told (new_ends old n (Event.Call by request (granted_reply old request))) ≡ count_by it (ended_between old (granted_cluster old request))
-    call_ends by (Request.Allocate app id asks releases) h = allocate_ends app id asks releases (is_repeated_allocate old app id)
-    call_ends by (Request.FinishMaster app) h = finish_ends app h
-    call_ends by (Request.Heartbeat node id ended) h = beat_ends node id ended (is_repeated_heartbeat old node id)
-    call_ends by (Request.NodeGone node) h = lost_ends node
-    call_ends by request h = sym (still (granted_cluster old request) refl)
+    call_ends : (by : ℕ) (new : Flat K) {request : Request K} {reply : Reply K} → Effect old request reply new → IsSome (app_at new n) → told (new_of ends old n (Event.Call by request reply)) ≡ count_by it (ended_between old new)
+    call_ends by new (Effect.nothing quiet) h = rw (quiet by n).1 (sym (still old refl))
+    call_ends by new (Effect.allocate app id asks releases there fresh) h =
+        let s = asks_keep app asks old in
+        let gone = released_by old app releases in
+        rw fresh (gone_ends Cause.Released gone new (ap (filter (λ c. not (is_among gone c))) s.live) s.next (count_ended it (λ c. c.app == app) releases 1 old.nodes.live old.nodes.next_container b.numbers))
+    call_ends by new (Effect.finish_master app) h = finish_ends app h
+    call_ends by new (Effect.heartbeat node id ended fresh) h =
+        rw fresh (gone_ends Cause.EndedOnNode (ended_by old node ended) new refl refl (count_ended it (λ c. c.node == node) ended 1 old.nodes.live old.nodes.next_container b.numbers))
+    call_ends by new (Effect.node_gone node) h = gone_ends Cause.NodeLost (containers_on old.nodes node) new refl refl (count_lost it (λ c. c.node == node) 1 old.nodes.live old.nodes.next_container b.numbers)
+    call_ends by new _ h = sym (still new refl)
 
-    refusal_ends : (by : ℕ) (request : Request K) (refusal : Refusal) → told (new_ends old n (Event.Call by request (Reply.Refused refusal))) ≡ count_by it (ended_between old old)
-    refusal_ends by request refusal = ap told (refused_tells old n by request refusal).2 ∙ sym (still old refl)
-
-    reply_ends : (by : ℕ) (request : Request K) (o : Option Refusal) → IsSome (app_at (refused_or o (λ refusal. old) (granted_cluster old request)) n) →
-        told (new_ends old n (Event.Call by request (refused_or o (λ refusal. Reply.Refused refusal) (granted_reply old request)))) ≡ count_by it (ended_between old (refused_or o (λ refusal. old) (granted_cluster old request)))
-    reply_ends by request None h = call_ends by request h
-    reply_ends by request (Some refusal) h = refusal_ends by request refusal
-
-    step_ends : (new : Flat K) (event : Event K) → Step old event new → IsSome (app_at new n) → told (new_ends old n event) ≡ count_by it (ended_between old new)
-    step_ends new (Event.Call by request reply) (inl r) h =
-        ap (λ x. told (new_ends old n (Event.Call by request x))) (r.0)
-        ∙ reply_ends by request (refusal_of old request) (subst (λ x. IsSome (app_at x n)) (r.1) h)
-        ∙ ap (λ x. count_by it (ended_between old x)) (sym (r.1))
-    step_ends new (Event.Call by request reply) (inr r) h =
-        ap (λ x. told (new_ends old n (Event.Call by request x))) (r.0.reply_is) ∙ refusal_ends by request Refusal.NoMemory ∙ ap (λ x. count_by it (ended_between old x)) (sym (r.1))
-    step_ends new (Event.Grant c) (admissible, at, after) h = sym (ap (count_by it) (none_ended old new (c ∷ []) (ap (λ (x : Flat K). x.nodes.live) after)))
-    step_ends new (Event.Reserve r) (admissible, after) h = sym (still new (ap (λ (x : Flat K). x.nodes.live) after))
+    step_ends : (event : Event K) (new : Flat K) → Step old event new → IsSome (app_at new n) → told (new_ends old n event) ≡ count_by it (ended_between old new)
+    step_ends event new s h = ap told (ends_told.new_is old n event) ∙
+        by_step old (λ e x. IsSome (app_at x n) → told (new_of ends old n e) ≡ count_by it (ended_between old x)) (λ by request reply x call h. call_ends by x call h)
+        (λ c admissible at h. ap told (nothing_either (c.app == n)) ∙ sym (ap (count_by it) (none_ended old (after_grant old c) (c ∷ []) refl))) (λ r admissible h. sym (still (after_reserve old r) refl)) event new s h
 
   run_ends : {K : ℕ} (events : List (Event K)) (old new : Flat K) → IsBounded old → Run old events new → IsSome (app_at new n) → told (ever_new_ends old n events) ≡ count_by it (ever_ended old events)
   run_ends {K} [] old new b run h = refl
@@ -112,13 +77,13 @@ module _ (n number : ℕ) where
       at = determined old mid event step
 
       by : (IsSome (app_at mid n) ⊎ (app_at mid n ≡ None)) → (IsSome (app_at old n) ⊎ (app_at old n ≡ None)) → told (new_ends old n event) ≡ count_by it (ended_between old mid)
-      by (inl a) o = step_ends old b mid event step a
+      by (inl a) o = step_ends old b event mid step a
       by (inr a) (inl o) =
-          let below : n < mid.apps.next = omega (arith, used old n b.formed.apps o, next_rises old mid (step_moves old mid event step)) in
+          let below : n < mid.apps.next = omega (arith, used (λ (x : App). x.number) old.apps.active old.apps.next n b.formed.apps o, next_rises (step_moves old mid event step)) in
           absurd (not_none (app_at new n) (never_back events mid new n a below run) h)
       by (inr a) (inr o) =
-          ap told (ends_nothing old n o b.formed mid event step)
-          ∙ sym (nobody (λ c. not (is_among mid.nodes.live c)) old.nodes.live (λ c m e. not_live old n o b.formed c m))
+          ap told (ends_told.new_is old n event ∙ (quiet ends old n b.formed.apps (none_ends old n b.formed o) o event mid step).1)
+          ∙ sym (nobody (λ c. not (is_among mid.nodes.live c)) old.nodes.live (λ c m e. not_live old n b.formed o c m))
 
       joined : told (new_ends old n event) ≡ count_by it (ended_between old mid) → told (ever_new_ends mid n events) ≡ count_by it (ever_ended mid events) → told (ever_new_ends old n (event ∷ events)) ≡ count_by it (ever_ended old (event ∷ events))
       joined first rest =

@@ -1,7 +1,7 @@
 -- A reply in full is what it was, and its grants and ends have room.
-use Rattle.cap_laws.proofs.Prelude.{◌≡◌, ℕ, ◌≤◌, ◌+◌, Bool, true, false, List, [], ◌∷◌, ◌++◌, refl, sym, ◌∙◌, ap, subst, inl, inr, arith, Option, Some, None, IsSome, cond, not, ◌&&◌, ◌-◌, min, length, find, map, filter, ◌==◌, unwrap_or, option_map, option_and_then, if◌then◌else◌, option_map_or, length-take, length-append, length-map, length-filter, count_by-le-length, nat_tests, cons_option, Ask, AllocateReply, Reply, End, Cause, Request, Refusal, news_max, Flat, App, Container, app_at, containers_of, nothing_told, after_telling, after_processed_allocate, after_wishes, kept_reply, is_repeated_allocate, released_by, Replies, refused_or, refusal_of, granted_reply, NewsRoom, news_most, HasRoomFor, IsNoAllocate, named_among, holds_of, is_repeated, ends_of, find_changed, kept_if}
+use Rattle.cap_laws.proofs.Prelude.{◌≡◌, ℕ, ◌≤◌, ◌+◌, Bool, true, false, List, [], ◌∷◌, ◌++◌, refl, sym, ◌∙◌, ap, subst, inl, inr, arith, Option, Some, None, IsSome, cond, not, ◌-◌, min, length, find, map, filter, ◌==◌, unwrap_or, option_map, option_and_then, if◌then◌else◌, option_map_or, length-take, length-append, length-map, length-filter, count_by-le-length, nat_tests, cons_option, Ask, AllocateReply, Reply, End, Cause, Request, Refusal, news_max, Flat, App, Container, app_at, containers_of, nothing_told, after_telling, after_processed_allocate, after_wishes, kept_reply, is_repeated_allocate, released_by, Replies, refused_or, refusal_of, granted_reply, NewsRoom, news_most, HasRoomFor, IsNoAllocate, named_among, holds_of, is_repeated, ends_of, find_changed, kept_if}
 use Rattle.cap_model.specs.declared.reply.ReplyWith.TheVariants as Reply
-use Rattle.cap_laws.proofs.telling.Telling.{its_number, its_test, allocate_tells, grants_are, ends_are}
+use Rattle.cap_laws.proofs.telling.Telling.{its_number, its_test, News, untold, grants, ends, allocate_tells, grants_are, ends_are}
 
 itself : (n : ℕ) → (n == n) ≡ true
 itself n = grind (arith, nat_tests)
@@ -59,6 +59,10 @@ module _ {K : ℕ} (old : Flat K) (n id : ℕ) (asks : List Ask) (releases : Lis
   abbrev told : AllocateReply
   told = kept_reply processed n
 
+  -- what is said to the application itself
+  said : {N : Type 0} (k : News N) {b : Bool} → true ≡ b → k.from told ++ untold k processed n ≡ option_map_or k.from (if b then Some told else None) [] ++ untold k processed n
+  said k e = ap (λ b. option_map_or k.from (if b then Some told else None) [] ++ untold k processed n) e
+
   -- the news of an allocate that is no repeat: of what waited and of the releases
   fresh_room : (app : App) → app_at old n ≡ Some app → (length told.grants ≤ min news_max (length app.grants)) × (length told.ends ≤ min news_max (length app.ends + length releases))
   fresh_room app there = by (app_at processed n) refl
@@ -87,13 +91,13 @@ module _ {K : ℕ} (old : Flat K) (n id : ℕ) (asks : List Ask) (releases : Lis
           both (omega (arith, g)) (omega (arith, d))
       by (Some x) e =
           let some = is_there processed n x e in
-          let grants = of_them told.grants (option_map_or (λ (a : App). a.grants) (app_at processed n) []) (option_map_or (λ (a : App). a.grants) (app_at old n) []) [] (ap (λ b. (if b && true then told.grants else []) ++ option_map_or (λ (a : App). a.grants) (app_at processed n) []) (sym (itself n)) ∙ allocate_tells _ _ _ grants_are n n id asks releases old false some) in
-          let ends = of_them told.ends (option_map_or (λ (a : App). a.ends) (app_at processed n) []) (option_map_or (λ (a : App). a.ends) (app_at old n) []) (ends_of Cause.Released n (released_by old n releases)) (ap (λ b. (if b && true then told.ends else []) ++ option_map_or (λ (a : App). a.ends) (app_at processed n) []) (sym (itself n)) ∙ allocate_tells _ _ _ ends_are n n id asks releases old false some) in
+          let of_grants = of_them told.grants (untold grants processed n) (untold grants old n) [] (said grants (sym (itself n)) ∙ allocate_tells grants grants_are n n id asks releases old some) in
+          let of_ends = of_them told.ends (untold ends processed n) (untold ends old n) (ends_of Cause.Released n (released_by old n releases)) (said ends (sym (itself n)) ∙ allocate_tells ends ends_are n n id asks releases old some) in
           let g = ap (λ (o : Option App). length (option_map_or (λ (a : App). a.grants) o [])) there in
           let d = ap (λ (o : Option App). length (option_map_or (λ (a : App). a.ends) o [])) there in
           let f = ends_few n (released_by old n releases) in
           let m = named_few releases (containers_of old.nodes n) in
-          both (omega (arith, grants, g)) (omega (arith, ends, d, f, m))
+          both (omega (arith, of_grants, g)) (omega (arith, of_ends, d, f, m))
 
   -- the news of an allocate that may be one
   allocate_room : (app : App) → app_at old n ≡ Some app → (b : Bool) → is_repeated app.response app.kept id ≡ b →

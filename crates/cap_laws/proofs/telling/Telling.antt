@@ -1,6 +1,7 @@
 -- Grants and ends are told in order, each once.
-use Rattle.cap_laws.proofs.Prelude.{◌≡◌, ℕ, Bool, true, false, List, [], ◌∷◌, ◌++◌, refl, sym, ◌∙◌, ap, subst, inl, inr, arith, Option, Some, None, IsSome, cond, not, ◌&&◌, ◌==◌, length, ◌-◌, find, map, filter, unwrap_or, option_map, option_and_then, if◌then◌else◌, option_map_or, option_or, cases_Bool, nat_tests, take-append-drop, append-nil, find-append, Ask, Cause, End, Grant, AllocateReply, Request, Refusal, Flat, App, Container, app_at, containers_on, after_asks, after_ask, rounded_ask, put_ask, with_ends, new_app, news_max, nothing_told, news_report, after_telling, after_processed_allocate, kept_reply, is_repeated_allocate, released_by, after_processed_heartbeat, is_repeated_heartbeat, ended_by, refused_or, refusal_of, granted_reply, granted_cluster, reply_to, Event, Step, after_grant, news_of, take_one, untold_grants, told_grants, new_grants, GrantsAreToldInOrder, untold_ends, told_ends, new_ends, ends_of, EndsAreToldInOrder, found, map_twice, find_changed, find_others, find_gone, and_true, and_false, kept_if, not_none}
+use Rattle.cap_laws.proofs.Prelude.{◌≡◌, ℕ, Bool, true, false, List, [], ◌∷◌, ◌++◌, refl, sym, ◌∙◌, ap, subst, inl, inr, arith, Option, Some, None, IsSome, cond, not, ◌&&◌, ◌==◌, length, ◌-◌, find, map, filter, unwrap_or, option_map, option_and_then, if◌then◌else◌, option_map_or, option_or, cases_Bool, nat_tests, take-append-drop, append-nil, find-append, Ask, Cause, End, Grant, AllocateReply, Request, Reply, Flat, App, Container, app_at, containers_on, after_asks, after_ask, rounded_ask, put_ask, with_ends, new_app, news_max, nothing_told, news_report, after_telling, after_processed_allocate, kept_reply, is_repeated_allocate, released_by, is_repeated_heartbeat, ended_by, Event, Step, after_event, after_grant, news_of, take_one, told_grants, new_grants, ever_told_grants, ever_new_grants, GrantsAreToldInOrder, told_ends, new_ends, ever_told_ends, ever_new_ends, ends_of, EndsAreToldInOrder, found, map_twice, find_changed, find_others, find_gone, and_true, kept_if, not_none}
 use Rattle.cap_model.specs.declared.reply.ReplyWith.TheVariants as Reply
+use Rattle.cap_laws.proofs.calls.Steps.{Effect, by_step, told_reply, gone_at}
 
 -- the application that is found by a number has it, and so the test on another number is that of the two
 pub its_number : (n : ℕ) (xs : List App) (a : App) → find (λ x. x.number == n) xs ≡ Some a → a.number ≡ n
@@ -9,10 +10,7 @@ its_number n xs a e = let same = (found (λ (x : App). x.number == n) xs a e).1 
 pub its_test : (m n : ℕ) (a : App) → a.number ≡ n → (a.number == m) ≡ (m == n)
 its_test m n a e = grind (arith, nat_tests, e)
 
-nothing_where : {A : Type 0} (b : Bool) (xs : List A) → cond (b && false) xs [] ≡ []
-nothing_where b xs = ap (λ c. cond c xs []) (and_false b)
-
-nothing_either : {A : Type 0} (b : Bool) → cond {A = List A} b [] [] ≡ []
+pub nothing_either : {A : Type 0} (b : Bool) → cond {A = List A} b [] [] ≡ []
 nothing_either true = refl
 nothing_either false = refl
 
@@ -56,53 +54,138 @@ module _ {N : Type 0} (of : App → List N) (n : ℕ) where
       by None false = refl
       by (Some x) b = refl
 
--- a kind of news: what applications keep of it until they are told, what a reply tells of it, and what ends of containers add to it
-pub record IsNews {N : Type 0} (of : App → List N) (from : AllocateReply → List N) (ends : Cause → ℕ → List Container → List N) : Type 0 where
-  pub telling : (id ignored : ℕ) (a : App) → from (news_report id ignored a) ++ of (after_telling id ignored a) ≡ of a
-  pub asking : (asks : List Ask) (a : App) → of (record a { asks = asks }) ≡ of a
-  pub ending : (cause : Cause) (gone : List Container) (a : App) → of (with_ends cause gone a) ≡ of a ++ ends cause a.number gone
+-- A kind of news, the grants or the ends: what an application keeps of it until it is told, what a reply tells, and what ends and a grant add.
+pub record News (N : Type 0) : Type 0 where
+  pub of : App → List N
+  pub from : AllocateReply → List N
+  pub ends : Cause → ℕ → List Container → List N
+  pub grants : Grant → List N
 
-pub grants_are : IsNews (λ a. a.grants) (λ r. r.grants) (λ cause n gone. [])
-grants_are = record { telling = λ id ignored a. take-append-drop news_max a.grants; asking = λ asks a. refl; ending = λ cause gone a. sym (append-nil a.grants) }
+pub record IsNews {N : Type 0} (k : News N) : Type 0 where
+  pub entering : (number : ℕ) (leaf user : List ℕ) → k.of (new_app number leaf user) ≡ []
+  pub registering : (a : App) → k.of (record a { registered = true }) ≡ k.of a
+  pub asking : (asks : List Ask) (a : App) → k.of (record a { asks = asks }) ≡ k.of a
+  pub telling : (id ignored : ℕ) (a : App) → k.from (news_report id ignored a) ++ k.of (after_telling id ignored a) ≡ k.of a
+  pub ending : (cause : Cause) (gone : List Container) (a : App) → k.of (with_ends cause gone a) ≡ k.of a ++ k.ends cause a.number gone
+  pub granting : (asks : List Ask) (grant : Grant) (a : App) → k.of (record a { asks = asks; grants = a.grants ++ grant ∷ [] }) ≡ k.of a ++ k.grants grant
 
-pub ends_are : IsNews (λ a. a.ends) (λ r. r.ends) ends_of
-ends_are = record { telling = λ id ignored a. take-append-drop news_max a.ends; asking = λ asks a. refl; ending = λ cause gone a. refl }
+-- what an event tells an application of it, and what it adds
+module _ {N : Type 0} (k : News N) {K : ℕ} where
+  abbrev pub untold : Flat K → ℕ → List N
+  untold c n = option_map_or k.of (app_at c n) []
 
-module _ {N : Type 0} (of : App → List N) (from : AllocateReply → List N) (ends : Cause → ℕ → List Container → List N) (k : IsNews of from ends) (n : ℕ) where
-  ended : (cause : Cause) (gone : List Container) (a : App) → a.number ≡ n → of (with_ends cause gone a) ≡ of a ++ ends cause n gone
-  ended cause gone a e = k.ending cause gone a ∙ ap (λ m. of a ++ ends cause m gone) e
+  abbrev pub told_of : Flat K → ℕ → Event K → List N
+  told_of old n event = option_map_or k.from (told_reply old n event) []
+
+  abbrev pub new_of : Flat K → ℕ → Event K → List N
+  new_of old n (Event.Grant c) = if c.app == n then k.grants (news_of old c) else []
+  new_of old n event = option_map_or (λ g. k.ends (g.0) n (g.1)) (gone_at old event) []
+
+-- functions that say so, of an event and of the events of a run
+pub record AreTold {N : Type 0} (k : News N) {K : ℕ} (told new : Flat K → ℕ → Event K → List N) (ever_told ever_new : Flat K → ℕ → List (Event K) → List N) : Type 0 where
+  pub told_is : (old : Flat K) (n : ℕ) (event : Event K) → told old n event ≡ told_of k old n event
+  pub new_is : (old : Flat K) (n : ℕ) (event : Event K) → new old n event ≡ new_of k old n event
+  pub start : (old : Flat K) (n : ℕ) → (ever_told old n [] ≡ []) × (ever_new old n [] ≡ [])
+  pub more : (old : Flat K) (n : ℕ) (event : Event K) (events : List (Event K)) →
+      (ever_told old n (event ∷ events) ≡ told old n event ++ ever_told (after_event old event) n events) × (ever_new old n (event ∷ events) ≡ new old n event ++ ever_new (after_event old event) n events)
+
+-- the grants are news, and so are the ends
+
+abbrev pub grants : News Grant
+grants = record { of = λ a. a.grants; from = λ r. r.grants; ends = λ cause n gone. []; grants = λ grant. grant ∷ [] }
+
+abbrev pub ends : News End
+ends = record { of = λ a. a.ends; from = λ r. r.ends; ends = ends_of; grants = λ grant. [] }
+
+pub grants_are : IsNews grants
+grants_are = record {
+  entering = λ number leaf user. refl;
+  registering = λ a. refl;
+  asking = λ asks a. refl;
+  telling = λ id ignored a. take-append-drop news_max a.grants;
+  ending = λ cause gone a. sym (append-nil a.grants);
+  granting = λ asks grant a. refl;
+}
+
+pub ends_are : IsNews ends
+ends_are = record {
+  entering = λ number leaf user. refl;
+  registering = λ a. refl;
+  asking = λ asks a. refl;
+  telling = λ id ignored a. take-append-drop news_max a.ends;
+  ending = λ cause gone a. refl;
+  granting = λ asks grant a. sym (append-nil a.ends);
+}
+
+told_where : {N : Type 0} (from : AllocateReply → List N) (b : Bool) (reply : AllocateReply) → cond b (from reply) [] ≡ option_map_or from (cond b (Some reply) None) []
+told_where from true reply = refl
+told_where from false reply = refl
+
+gone_where : {N : Type 0} (f : (Cause × List Container) → List N) (b : Bool) (g : Cause × List Container) → cond b [] (f g) ≡ option_map_or f (cond b None (Some g)) []
+gone_where f true g = refl
+gone_where f false g = refl
+
+nothing_of : {A N : Type 0} (o : Option A) → [] ≡ option_map_or {U = List N} (λ x. []) o []
+nothing_of None = refl
+nothing_of (Some x) = refl
+
+module _ {K : ℕ} where
+  told_grants_are : (old : Flat K) (n : ℕ) (event : Event K) → told_grants old n event ≡ told_of grants old n event
+  told_grants_are old n (Event.Call by (Request.Allocate app id asks releases) (Reply.Allocate reply)) = told_where (λ r. r.grants) (app == n && not (is_repeated_allocate old app id)) reply
+  told_grants_are old n _ = refl
+
+  told_ends_are : (old : Flat K) (n : ℕ) (event : Event K) → told_ends old n event ≡ told_of ends old n event
+  told_ends_are old n (Event.Call by (Request.Allocate app id asks releases) (Reply.Allocate reply)) = told_where (λ r. r.ends) (app == n && not (is_repeated_allocate old app id)) reply
+  told_ends_are old n _ = refl
+
+  new_grants_are : (old : Flat K) (n : ℕ) (event : Event K) → new_grants old n event ≡ new_of grants old n event
+  new_grants_are old n (Event.Grant c) = refl
+  new_grants_are old n (Event.Call by request reply) = nothing_of (gone_at old (Event.Call by request reply))
+  new_grants_are old n (Event.Reserve r) = refl
+
+  new_ends_are : (old : Flat K) (n : ℕ) (event : Event K) → new_ends old n event ≡ new_of ends old n event
+  new_ends_are old n (Event.Grant c) = sym (nothing_either (c.app == n))
+  new_ends_are old n (Event.Call by (Request.Allocate app id asks releases) (Reply.Allocate reply)) = gone_where (λ g. ends_of (g.0) n (g.1)) (is_repeated_allocate old app id) (Cause.Released, released_by old app releases)
+  new_ends_are old n (Event.Call by (Request.Heartbeat node id ended) (Reply.Heartbeat reply)) = gone_where (λ g. ends_of (g.0) n (g.1)) (is_repeated_heartbeat old node id) (Cause.EndedOnNode, ended_by old node ended)
+  new_ends_are old n (Event.Call by (Request.NodeGone node) (Reply.NodeGone count)) = refl
+  new_ends_are old n _ = refl
+
+  pub grants_told : AreTold grants {K = K} told_grants new_grants ever_told_grants ever_new_grants
+  grants_told = record { told_is = told_grants_are; new_is = new_grants_are; start = λ old n. (refl, refl); more = λ old n event events. (refl, refl) }
+
+  pub ends_told : AreTold ends {K = K} told_ends new_ends ever_told_ends ever_new_ends
+  ends_told = record { told_is = told_ends_are; new_is = new_ends_are; start = λ old n. (refl, refl); more = λ old n event events. (refl, refl) }
+
+-- the law of a step
+
+module _ {N : Type 0} (k : News N) (is : IsNews k) (n : ℕ) where
+  ended : (cause : Cause) (gone : List Container) (a : App) → a.number ≡ n → k.of (with_ends cause gone a) ≡ k.of a ++ k.ends cause n gone
+  ended cause gone a e = is.ending cause gone a ∙ ap (λ m. k.of a ++ k.ends cause m gone) e
 
   module _ {K : ℕ} where
-    abbrev pub untold : Flat K → List N
-    untold c = option_map_or of (app_at c n) []
-
-    asks_keep : (m : ℕ) (asks : List Ask) (c : Flat K) → untold (after_asks m asks c) ≡ untold c
+    asks_keep : (m : ℕ) (asks : List Ask) (c : Flat K) → untold k (after_asks m asks c) n ≡ untold k c n
     asks_keep m [] c = refl
     asks_keep m (ask ∷ asks) c =
+        let put : App → App = λ a. record a { asks = put_ask (rounded_ask K c.settings ask) a.asks } in
         asks_keep m asks (after_ask m c (rounded_ask K c.settings ask))
-        ∙ kept of n (λ a. if a.number == m then record a { asks = put_ask (rounded_ask K c.settings ask) a.asks } else a)
-        (λ a. kept_if (a.number == m) (λ (x : App). x.number) (record a { asks = put_ask (rounded_ask K c.settings ask) a.asks }) a refl)
-        (λ a. kept_if (a.number == m) of (record a { asks = put_ask (rounded_ask K c.settings ask) a.asks }) a (k.asking (put_ask (rounded_ask K c.settings ask) a.asks) a)) c.apps.active
+        ∙ kept k.of n (λ a. if a.number == m then put a else a) (λ a. kept_if (a.number == m) (λ (x : App). x.number) (put a) a refl)
+        (λ a. kept_if (a.number == m) k.of (put a) a (is.asking (put_ask (rounded_ask K c.settings ask) a.asks) a)) c.apps.active
 
-    -- containers end, unless a heartbeat is repeated
-    ends_tell : (cause : Cause) (gone : List Container) (old new : Flat K) → new.apps.active ≡ map (with_ends cause gone) old.apps.active → (b : Bool) → IsSome (app_at (cond b old new) n) →
-        untold (cond b old new) ≡ untold old ++ (if b then [] else ends cause n gone)
-    ends_tell cause gone old new e true h = sym (append-nil (untold old))
-    ends_tell cause gone old new e false h =
-        ap (λ xs. in_app of n (find (λ a. a.number == n) xs)) e
-        ∙ changed of n (with_ends cause gone) (λ a. refl) old.apps.active (λ o. []) (ends cause n gone) (ended cause gone) (subst (λ xs. IsSome (find (λ (a : App). a.number == n) xs)) e h)
+    -- containers end
+    ends_tell : (cause : Cause) (gone : List Container) (old new : Flat K) → new.apps.active ≡ map (with_ends cause gone) old.apps.active → IsSome (app_at new n) → untold k new n ≡ untold k old n ++ k.ends cause n gone
+    ends_tell cause gone old new e h =
+        ap (λ xs. in_app k.of n (find (λ a. a.number == n) xs)) e
+        ∙ changed k.of n (with_ends cause gone) (λ a. refl) old.apps.active (λ o. []) (k.ends cause n gone) (ended cause gone) (subst (λ xs. IsSome (find (λ (a : App). a.number == n) xs)) e h)
 
     -- an allocate tells its own application, and nobody else
-    pub allocate_tells : (m id : ℕ) (asks : List Ask) (releases : List ℕ) (old : Flat K) (b : Bool) → IsSome (app_at (cond b old (after_processed_allocate old m id asks releases)) n) →
-        (if m == n && not b then from (kept_reply (cond b old (after_processed_allocate old m id asks releases)) m) else []) ++ untold (cond b old (after_processed_allocate old m id asks releases))
-        ≡ untold old ++ (if b then [] else ends Cause.Released n (released_by old m releases))
-    allocate_tells m id asks releases old true h = ap (λ xs. xs ++ untold old) (nothing_where (m == n) (from (kept_reply old m))) ∙ sym (append-nil (untold old))
-    allocate_tells m id asks releases old false h =
-        ap (λ b. (if b then from (kept_reply new m) else []) ++ untold new) (and_true (m == n))
-        ∙ ap (λ xs. xs ++ untold new) (its (m == n) refl)
-        ∙ ap (λ o. telling o ++ in_app of n o) at
-        ∙ changed of n both same x.apps.active telling (ends Cause.Released n gone) each (subst (λ o. IsSome o) at h)
-        ∙ ap (λ xs. xs ++ ends Cause.Released n gone) (asks_keep m asks old)
+    pub allocate_tells : (m id : ℕ) (asks : List Ask) (releases : List ℕ) (old : Flat K) → IsSome (app_at (after_processed_allocate old m id asks releases) n) →
+        let new = after_processed_allocate old m id asks releases in
+        option_map_or k.from (if m == n then Some (kept_reply new m) else None) [] ++ untold k new n ≡ untold k old n ++ k.ends Cause.Released n (released_by old m releases)
+    allocate_tells m id asks releases old h =
+        ap (λ o. option_map_or k.from o [] ++ untold k new n) (its (m == n) refl)
+        ∙ ap (λ o. telling o ++ in_app k.of n o) at
+        ∙ changed k.of n both same x.apps.active telling (k.ends Cause.Released n gone) each (subst (λ o. IsSome o) at h)
+        ∙ ap (λ xs. xs ++ k.ends Cause.Released n gone) (asks_keep m asks old)
       where
         new : Flat K
         new = after_processed_allocate old m id asks releases
@@ -122,104 +205,75 @@ module _ {N : Type 0} (of : App → List N) (from : AllocateReply → List N) (e
         same : (a : App) → (both a).number ≡ a.number
         same a = kept_if (a.number == m) (λ (y : App). y.number) (tell (with_ends Cause.Released gone a)) (with_ends Cause.Released gone a) refl
 
+        reply_in : Option App → AllocateReply
+        reply_in o = unwrap_or (option_and_then (λ (app : App). app.kept) o) nothing_told
+
         telling : Option App → List N
-        telling o = if m == n then from (unwrap_or (option_and_then (λ app. app.kept) o) nothing_told) else []
+        telling o = option_map_or k.from (if m == n then Some (reply_in o) else None) []
 
         at : app_at new n ≡ find (λ a. a.number == n) (map both x.apps.active)
         at = ap (find (λ (a : App). a.number == n)) (map_twice (λ (a : App). if a.number == m then tell a else a) (with_ends Cause.Released gone) x.apps.active)
 
-        its : (b : Bool) → m == n ≡ b → (if b then from (kept_reply new m) else []) ≡ (if b then from (kept_reply new n) else [])
-        its true e = let s : m ≡ n = grind (arith, nat_tests, e) in ap (λ i. from (kept_reply new i)) s
+        its : (b : Bool) → m == n ≡ b → (if b then Some (kept_reply new m) else None) ≡ (if b then Some (kept_reply new n) else None)
+        its true e = let s : m ≡ n = grind (arith, nat_tests, e) in ap (λ i. Some (kept_reply new i)) s
         its false e = refl
 
-        each : (a : App) → a.number ≡ n → telling (Some (both a)) ++ of (both a) ≡ of a ++ ends Cause.Released n gone
+        each : (a : App) → a.number ≡ n → telling (Some (both a)) ++ k.of (both a) ≡ k.of a ++ k.ends Cause.Released n gone
         each a e =
             let y = with_ends Cause.Released gone a in
-            ap (λ b. (if m == n then from (unwrap_or (option_and_then (λ (app : App). app.kept) (Some (cond b (tell y) y))) nothing_told) else []) ++ of (cond b (tell y) y)) (its_test m n a e)
+            ap (λ b. option_map_or k.from (if m == n then Some (reply_in (Some (cond b (tell y) y))) else None) [] ++ k.of (cond b (tell y) y)) (its_test m n a e)
             ∙ by y (m == n) ∙ ended Cause.Released gone a e
           where
-            by : (y : App) (b : Bool) → (if b then from (unwrap_or (option_and_then (λ (app : App). app.kept) (Some (cond b (tell y) y))) nothing_told) else []) ++ of (cond b (tell y) y) ≡ of y
-            by y true = k.telling id (length releases - length gone) y
+            by : (y : App) (b : Bool) → option_map_or k.from (if b then Some (reply_in (Some (cond b (tell y) y))) else None) [] ++ k.of (cond b (tell y) y) ≡ k.of y
+            by y true = is.telling id (length releases - length gone) y
             by y false = refl
 
-module _ {K : ℕ} (old : Flat K) (n : ℕ) where
-  -- both laws at an event and the cluster after it
-  abbrev IsToldAt : Event K → Flat K → Type 0
-  IsToldAt event new =
-      IsSome (app_at new n) →
-      (told_grants old n event ++ untold_grants new n ≡ untold_grants old n ++ new_grants old n event) × (told_ends old n event ++ untold_ends new n ≡ untold_ends old n ++ new_ends old n event)
+    module _ (old : Flat K) where
+      -- what the event tells, with what is then left to tell, is what was left before with what it adds
+      abbrev IsToldAt : Event K → Flat K → Type 0
+      IsToldAt event new = IsSome (app_at new n) → told_of k old n event ++ untold k new n ≡ untold k old n ++ new_of k old n event
 
-  -- nothing told and nothing added
-  as_before : {xs : List Grant} {ys : List End} → xs ≡ untold_grants old n → ys ≡ untold_ends old n → (xs ≡ untold_grants old n ++ []) × (ys ≡ untold_ends old n ++ [])
-  as_before e f = (e ∙ sym (append-nil (untold_grants old n)), f ∙ sym (append-nil (untold_ends old n)))
+      as_before : {xs : List N} → xs ≡ untold k old n → xs ≡ untold k old n ++ []
+      as_before e = e ∙ sym (append-nil (untold k old n))
 
-  no_grants : {xs : List Grant} (b : Bool) → xs ≡ untold_grants old n ++ cond b [] [] → xs ≡ untold_grants old n ++ []
-  no_grants b e = e ∙ ap (λ ys. untold_grants old n ++ ys) (nothing_either b)
+      call_tells : (by : ℕ) (new : Flat K) {request : Request K} {reply : Reply K} → Effect old request reply new → IsToldAt (Event.Call by request reply) new
+      call_tells by new (Effect.nothing quiet) h = let q = quiet by n in rw (q.0, q.1) (as_before refl)
+      call_tells by new (Effect.submit path user e) h = as_before (comes k.of n old.apps.active (new_app old.apps.next path user) (is.entering old.apps.next path user))
+      call_tells by new (Effect.register_master app) h =
+          let register : App → App = λ a. record a { registered = true } in
+          as_before (kept k.of n (λ a. if a.number == app then register a else a) (λ a. kept_if (a.number == app) (λ (x : App). x.number) (register a) a refl)
+          (λ a. kept_if (a.number == app) k.of (register a) a (is.registering a)) old.apps.active)
+      call_tells by new (Effect.allocate m id asks releases there fresh) h = rw (fresh, and_true (m == n)) (allocate_tells m id asks releases old h)
+      call_tells by new (Effect.finish_master app) h = as_before (goes k.of n app old.apps.active h)
+      call_tells by new (Effect.heartbeat node id ended fresh) h = rw fresh (ends_tell Cause.EndedOnNode (ended_by old node ended) old new refl h)
+      call_tells by new (Effect.node_gone node) h = ends_tell Cause.NodeLost (containers_on old.nodes node) old new refl h
+      call_tells by new _ h = as_before refl
 
-  ends_told : (cause : Cause) (gone : List Container) (new : Flat K) → new.apps.active ≡ map (with_ends cause gone) old.apps.active → (b : Bool) → IsSome (app_at (cond b old new) n) →
-      (untold_grants (cond b old new) n ≡ untold_grants old n ++ []) × (untold_ends (cond b old new) n ≡ untold_ends old n ++ (if b then [] else ends_of cause n gone))
-  ends_told cause gone new e b h = (no_grants b (ends_tell _ _ _ grants_are n cause gone old new e b h), ends_tell _ _ _ ends_are n cause gone old new e b h)
+      grant_tells : (c : Container) → IsToldAt (Event.Grant c) (after_grant old c)
+      grant_tells c h =
+          changed k.of n granted (λ a. kept_if (a.number == c.app) (λ (x : App). x.number) (granting a) a refl) old.apps.active (λ o. []) (if c.app == n then k.grants (news_of old c) else [])
+          (λ a e. ap (λ b. k.of (cond b (granting a) a)) (its_test c.app n a e) ∙ by a (c.app == n)) h
+        where
+          granting : App → App
+          granting a = record a { asks = take_one c.key a.asks; grants = a.grants ++ news_of old c ∷ [] }
 
-  call_tells : (by : ℕ) (request : Request K) → IsToldAt (Event.Call by request (granted_reply old request)) (granted_cluster old request)
-  call_tells by (Request.Submit path user) h = as_before (comes (λ a. a.grants) n old.apps.active (new_app old.apps.next path user) refl) (comes (λ a. a.ends) n old.apps.active (new_app old.apps.next path user) refl)
-  call_tells by (Request.RegisterMaster app) h =
-      let same : (a : App) → (if a.number == app then record a { registered = true } else a).number ≡ a.number = λ a. kept_if (a.number == app) (λ (x : App). x.number) (record a { registered = true }) a refl in
-      as_before
-      (kept (λ a. a.grants) n (λ a. if a.number == app then record a { registered = true } else a) same (λ a. kept_if (a.number == app) (λ (x : App). x.grants) (record a { registered = true }) a refl) old.apps.active)
-      (kept (λ a. a.ends) n (λ a. if a.number == app then record a { registered = true } else a) same (λ a. kept_if (a.number == app) (λ (x : App). x.ends) (record a { registered = true }) a refl) old.apps.active)
-  call_tells by (Request.Allocate app id asks releases) h =
-      let b = is_repeated_allocate old app id in
-      (no_grants b (allocate_tells _ _ _ grants_are n app id asks releases old b h), allocate_tells _ _ _ ends_are n app id asks releases old b h)
-  call_tells by (Request.FinishMaster app) h = as_before (goes (λ a. a.grants) n app old.apps.active h) (goes (λ a. a.ends) n app old.apps.active h)
-  call_tells by (Request.Heartbeat node id ended) h = ends_told Cause.EndedOnNode (ended_by old node ended) (after_processed_heartbeat old node id ended) refl (is_repeated_heartbeat old node id) h
-  call_tells by (Request.NodeGone node) h = ends_told Cause.NodeLost (containers_on old.nodes node) (granted_cluster old (Request.NodeGone node)) refl false h
-  call_tells by _ h = as_before refl refl
+          granted : App → App
+          granted a = if a.number == c.app then granting a else a
 
-  -- a refused call tells nothing and ends nothing
-  pub refused_tells : (by : ℕ) (request : Request K) (refusal : Refusal) →
-      (told_grants old n (Event.Call by request (Reply.Refused refusal)) ≡ []) × (told_ends old n (Event.Call by request (Reply.Refused refusal)) ≡ []) × (new_ends old n (Event.Call by request (Reply.Refused refusal)) ≡ [])
-  refused_tells by Request.ClusterInfo refusal = (refl, refl, refl)
-  refused_tells by _ refusal = (refl, refl, refl)
+          by : (a : App) (b : Bool) → k.of (cond b (granting a) a) ≡ k.of a ++ (if b then k.grants (news_of old c) else [])
+          by a true = is.granting (take_one c.key a.asks) (news_of old c) a
+          by a false = sym (append-nil (k.of a))
 
-  refusal_tells : (by : ℕ) (request : Request K) (refusal : Refusal) → IsToldAt (Event.Call by request (Reply.Refused refusal)) old
-  refusal_tells by Request.ClusterInfo refusal h = as_before refl refl
-  refusal_tells by _ refusal h = as_before refl refl
+      pub step_tells : (event : Event K) (new : Flat K) → Step old event new → IsToldAt event new
+      step_tells event new s = by_step old IsToldAt (λ by request reply x call. call_tells by x call) (λ c admissible number. grant_tells c) (λ r admissible h. as_before refl) event new s
 
-  reply_tells : (by : ℕ) (request : Request K) (o : Option Refusal) →
-      IsToldAt (Event.Call by request (refused_or o (λ refusal. Reply.Refused refusal) (granted_reply old request))) (refused_or o (λ refusal. old) (granted_cluster old request))
-  reply_tells by request None = call_tells by request
-  reply_tells by request (Some refusal) = refusal_tells by request refusal
-
-  grant_tells : (c : Container) → IsToldAt (Event.Grant c) (after_grant old c)
-  grant_tells c h = (
-    changed (λ a. a.grants) n granted same old.apps.active (λ o. []) (if c.app == n then news_of old c ∷ [] else [])
-        (λ a e. ap (λ b. (cond b (granting a) a).grants) (its_test c.app n a e) ∙ by a (c.app == n)) h,
-    kept (λ a. a.ends) n granted same (λ a. kept_if (a.number == c.app) (λ (x : App). x.ends) (granting a) a refl) old.apps.active ∙ sym (append-nil (untold_ends old n)),
-  )
-    where
-      granting : App → App
-      granting a = record a { asks = take_one c.key a.asks; grants = a.grants ++ news_of old c ∷ [] }
-
-      granted : App → App
-      granted a = if a.number == c.app then granting a else a
-
-      same : (a : App) → (granted a).number ≡ a.number
-      same a = kept_if (a.number == c.app) (λ (x : App). x.number) (granting a) a refl
-
-      by : (a : App) (b : Bool) → (cond b (granting a) a).grants ≡ a.grants ++ (if b then news_of old c ∷ [] else [])
-      by a true = refl
-      by a false = sym (append-nil a.grants)
-
-  step_tells : (event : Event K) (new : Flat K) → Step old event new → IsToldAt event new
-  step_tells (Event.Call by request reply) new (inl r) =
-      subst (λ x. IsToldAt (Event.Call by request x) new) (sym (r.0)) (subst (λ x. IsToldAt (Event.Call by request (reply_to old request)) x) (sym (r.1)) (reply_tells by request (refusal_of old request)))
-  step_tells (Event.Call by request reply) new (inr r) =
-      subst (λ x. IsToldAt (Event.Call by request x) new) (sym (r.0.reply_is)) (subst (λ x. IsToldAt (Event.Call by request (Reply.Refused Refusal.NoMemory)) x) (sym (r.1)) (refusal_tells by request Refusal.NoMemory))
-  step_tells (Event.Grant c) new (admissible, number, after) = subst (λ x. IsToldAt (Event.Grant c) x) (sym after) (grant_tells c)
-  step_tells (Event.Reserve r) new (admissible, after) = subst (λ x. IsToldAt (Event.Reserve r) x) (sym after) (λ h. as_before refl refl)
+-- for the functions that say what is told
+pub told_in_order : {N : Type 0} {k : News N} {K : ℕ} {told new : Flat K → ℕ → Event K → List N} {ever_told ever_new : Flat K → ℕ → List (Event K) → List N} → IsNews k → AreTold k told new ever_told ever_new →
+    (old mid : Flat K) (n : ℕ) (event : Event K) → Step old event mid → IsSome (app_at mid n) → told old n event ++ untold k mid n ≡ untold k old n ++ new old n event
+told_in_order {k = k} is are old mid n event s h = rw (are.told_is old n event, are.new_is old n event) (step_tells k is n old event mid s h)
 
 pub grants_are_told_in_order : GrantsAreToldInOrder
-grants_are_told_in_order K old new n event step h = (step_tells old n event new step h).0
+grants_are_told_in_order K old new n event step h = told_in_order grants_are grants_told old new n event step h
 
 pub ends_are_told_in_order : EndsAreToldInOrder
-ends_are_told_in_order K old new n event step h = (step_tells old n event new step h).1
+ends_are_told_in_order K old new n event step h = told_in_order ends_are ends_told old new n event step h

@@ -1,83 +1,13 @@
 -- Over whole runs grants and ends are told in order, each once.
-use Rattle.cap_laws.proofs.Prelude.{◌≡◌, ℕ, ◌<◌, Bool, true, false, List, [], ◌∷◌, ◌++◌, refl, sym, ◌∙◌, ap, subst, inl, inr, arith, ◌⊎◌, Option, Some, None, IsSome, is_none, cond, not, ◌&&◌, ◌==◌, filter, find, map, if◌then◌else◌, cons_option, option_map_or, nat_tests, append_assoc, append-nil, map-append, filter-append, Ask, Grant, Reply, Cause, Request, Refusal, Flat, App, Container, app_at, containers_on, named_among, allocate_refusal, is_repeated_allocate, released_by, is_repeated_heartbeat, ended_by, refused_or, granted_reply, reply_to, Event, Step, Run, after_event, news_of, granted_by, ever_granted, AreThere, IsWellFormed, container_numbers, HasAppNumbers, untold_grants, told_grants, new_grants, ever_told_grants, ever_new_grants, GrantsAreToldOverRuns, NewGrantsAreOfTheGranted, untold_ends, told_ends, new_ends, ends_of, ever_told_ends, ever_new_ends, EndsAreToldOverRuns, IsIn, found, of_filter, each_of, filter_none, not_none, there_or_not}
-use Rattle.cap_model.specs.declared.reply.ReplyWith.TheVariants as Reply
-use Rattle.cap_laws.proofs.calls.Moves.{AppsChange, step_moves, allocate_changes, beat_changes, lost_changes, grant_change}
-use Rattle.cap_laws.proofs.numbers.AppNumbers.{app_numbers_move, never_back, stays_missing, used, next_rises, kept_change}
+use Rattle.cap_laws.proofs.Prelude.{◌≡◌, ℕ, ◌<◌, Bool, true, false, List, [], ◌∷◌, ◌++◌, refl, sym, ◌∙◌, ap, subst, inl, inr, arith, ◌⊎◌, Option, Some, None, IsSome, cond, not, ◌==◌, filter, find, map, cons_option, option_map_or, nat_tests, append_assoc, append-nil, map-append, filter-append, Cause, Grant, Request, Reply, Flat, App, Container, app_at, containers_of, containers_on, named_among, released_by, ended_by, Event, Step, Run, after_event, after_grant, news_of, granted_by, ever_granted, AreThere, IsWellFormed, container_numbers, HasAppNumbers, new_grants, ever_new_grants, GrantsAreToldOverRuns, NewGrantsAreOfTheGranted, ends_of, EndsAreToldOverRuns, IsIn, found, of_filter, each_of, filter_none, not_none, there_or_not}
+use Rattle.cap_laws.proofs.lists.Tables.{numbers_move, used, next_rises, spent}
+use Rattle.cap_laws.proofs.calls.Steps.{Effect, by_step}
+use Rattle.cap_laws.proofs.calls.Moves.{step_moves, allocate_change, ends_change, grant_change}
+use Rattle.cap_laws.proofs.numbers.AppNumbers.{never_back, kept_change}
 use Rattle.cap_laws.proofs.numbers.Balance.{determined}
 use Rattle.cap_laws.proofs.choice.Proposers.{seen_is}
 use Rattle.cap_laws.proofs.bounds.Formed.{step_formed}
-use Rattle.cap_laws.proofs.telling.Telling.{refused_tells, grants_are_told_in_order, ends_are_told_in_order}
-
--- a first step and the rest, put together
-told_joined : {A : Type 0} (told rest left before after new more : List A) → told ++ after ≡ before ++ new → rest ++ left ≡ after ++ more → (told ++ rest) ++ left ≡ before ++ (new ++ more)
-told_joined told rest left before after new more first tail =
-    append_assoc told rest left ∙ ap (λ xs. told ++ xs) tail ∙ sym (append_assoc told after more) ∙ ap (λ xs. xs ++ more) first ∙ append_assoc before new more
-
--- what it takes that news is told over runs: each step tells it in order, and nothing of an application that is not there, or that goes
-record IsTold {N : Type 0} {K : ℕ} (Good : Flat K → Type 0) (untold : Flat K → ℕ → List N) (told new : Flat K → ℕ → Event K → List N) (ever_told ever_new : Flat K → ℕ → List (Event K) → List N) : Type 0 where
-  pub numbers : (c : Flat K) → Good c → HasAppNumbers c
-  pub stays : (old mid : Flat K) (event : Event K) → Good old → Step old event mid → Good mid
-  pub in_order : (old mid : Flat K) (n : ℕ) (event : Event K) → Step old event mid → IsSome (app_at mid n) → told old n event ++ untold mid n ≡ untold old n ++ new old n event
-  pub nothing : (c : Flat K) (n : ℕ) → app_at c n ≡ None → untold c n ≡ []
-  pub quiet : (old mid : Flat K) (n : ℕ) (event : Event K) → Good old → Step old event mid → app_at old n ≡ None → (told old n event ≡ []) × (new old n event ≡ [])
-  pub going : (old mid : Flat K) (n : ℕ) (event : Event K) → Step old event mid → IsSome (app_at old n) → app_at mid n ≡ None → (told old n event ≡ []) × (new old n event ≡ [])
-  pub start : (c : Flat K) (n : ℕ) → (ever_told c n [] ≡ []) × (ever_new c n [] ≡ [])
-  pub more : (c : Flat K) (n : ℕ) (event : Event K) (events : List (Event K)) →
-      (ever_told c n (event ∷ events) ≡ told c n event ++ ever_told (after_event c event) n events) × (ever_new c n (event ∷ events) ≡ new c n event ++ ever_new (after_event c event) n events)
-
-module _ {N : Type 0} {K : ℕ} (Good : Flat K → Type 0) (untold : Flat K → ℕ → List N) (told new : Flat K → ℕ → Event K → List N) (ever_told ever_new : Flat K → ℕ → List (Event K) → List N) (laws : IsTold Good untold told new ever_told ever_new) (n : ℕ) where
-  never : (events : List (Event K)) (old close : Flat K) → Good old → app_at old n ≡ None → n < old.apps.next → Run old events close → (ever_told old n events ≡ []) × (ever_new old n events ≡ [])
-  never [] old close g e h run = laws.start old n
-  never (event ∷ events) old close g e h (mid, step, run) =
-      let at = determined old mid event step in
-      let still = stays_missing old mid (step_moves old mid event step) n e h in
-      let rest = never events mid close (laws.stays old mid event g step) still.0 still.1 run in
-      let quiet = laws.quiet old mid n event g step e in
-      let more = laws.more old n event events in (
-        more.0 ∙ (λ i. (quiet.0) i ++ (ap (λ c. ever_told c n events) (sym at) ∙ rest.0) i),
-        more.1 ∙ (λ i. (quiet.1) i ++ (ap (λ c. ever_new c n events) (sym at) ∙ rest.1) i),
-      )
-
-  -- the law of a run
-  abbrev IsToldOver : List (Event K) → Flat K → Flat K → Type 0
-  IsToldOver events old close = (left : List N) × (ever_told old n events ++ left ≡ untold old n ++ ever_new old n events) × (IsSome (app_at close n) → left ≡ untold close n)
-
-  -- where nothing is told and nothing added, all is left
-  untouched : (events : List (Event K)) (old : Flat K) → ever_told old n events ≡ [] → ever_new old n events ≡ [] → ever_told old n events ++ untold old n ≡ untold old n ++ ever_new old n events
-  untouched events old e f = ap (λ xs. xs ++ untold old n) e ∙ sym (append-nil (untold old n)) ∙ ap (λ xs. untold old n ++ xs) (sym f)
-
-  run_tells : (events : List (Event K)) (old close : Flat K) → Good old → Run old events close → IsToldOver events old close
-  run_tells [] old close g run = let none = laws.start old n in (untold old n, untouched [] old none.0 none.1, λ h. ap (λ (c : Flat K). untold c n) run)
-  run_tells (event ∷ events) old close g (mid, step, run) = by (run_tells events mid close (laws.stays old mid event g step) run) (there_or_not (app_at mid n)) (there_or_not (app_at old n))
-    where
-      at : mid ≡ after_event old event
-      at = determined old mid event step
-
-      joined : IsToldOver events mid close → told old n event ++ untold mid n ≡ untold old n ++ new old n event → IsToldOver (event ∷ events) old close
-      joined rest first =
-          let more = laws.more old n event events in (
-            rest.0,
-            ap (λ xs. xs ++ rest.0) (more.0)
-                ∙ told_joined (told old n event) (ever_told (after_event old event) n events) (rest.0) (untold old n) (untold mid n) (new old n event) (ever_new (after_event old event) n events) first
-                (subst (λ c. ever_told c n events ++ rest.0 ≡ untold mid n ++ ever_new c n events) at (rest.1))
-                ∙ ap (λ xs. untold old n ++ xs) (sym (more.1)),
-            rest.2,
-          )
-
-      by : IsToldOver events mid close → (IsSome (app_at mid n) ⊎ (app_at mid n ≡ None)) → (IsSome (app_at old n) ⊎ (app_at old n ≡ None)) → IsToldOver (event ∷ events) old close
-      by rest (inl a) b = joined rest (laws.in_order old mid n event step a)
-      by rest (inr a) (inr b) =
-          let quiet = laws.quiet old mid n event g step b in
-          joined rest ((λ i. (quiet.0) i ++ laws.nothing mid n a i) ∙ sym (λ i. laws.nothing old n b i ++ (quiet.1) i))
-      by rest (inr a) (inl b) =
-          let quiet = laws.going old mid n event step b a in
-          let more = laws.more old n event events in
-          let below : n < mid.apps.next = omega (arith, used old n (laws.numbers old g) b, next_rises old mid (step_moves old mid event step)) in
-          let rest = never events mid close (laws.stays old mid event g step) a below run in (
-            untold old n,
-            untouched (event ∷ events) old (more.0 ∙ (λ i. (quiet.0) i ++ (ap (λ c. ever_told c n events) (sym at) ∙ rest.0) i)) (more.1 ∙ (λ i. (quiet.1) i ++ (ap (λ c. ever_new c n events) (sym at) ∙ rest.1) i)),
-            λ h. absurd (not_none (app_at close n) (never_back events mid close n a below run) h),
-          )
+use Rattle.cap_laws.proofs.telling.Telling.{News, IsNews, AreTold, untold, told_of, new_of, told_in_order, grants, ends, grants_are, ends_are, grants_told, ends_told}
 
 -- what some numbers name among containers are some of them
 
@@ -94,144 +24,146 @@ named_in (n ∷ ns) live c m =
       | inr h ↦ (of_filter (λ (d : Container). not (d.number == n)) live c (named_in ns (filter (λ d. not (d.number == n)) live) c h)).1
     ]
 
--- of containers of which none is an application's, nothing is told
-none_of : (cause : Cause) (n : ℕ) (gone : List Container) → ((c : Container) → IsIn c gone → c.app == n ≡ false) → ends_of cause n gone ≡ []
-none_of cause n gone f = ap (map (λ c. record { container = c.number; cause = cause })) (filter_none (λ (c : Container). c.app == n) gone f)
+-- who is not there is told nothing, and of who goes nothing is told or added
 
-where_true : {A : Type 0} (b : Bool) (x y : A) → b ≡ true → cond b x y ≡ x
-where_true true x y e = refl
-where_true false x y e = absurd (cc e)
+module _ {N : Type 0} (k : News N) {K : ℕ} (old : Flat K) (n : ℕ) where
+  abbrev pub IsQuietAt : Event K → Type 0
+  IsQuietAt event = (told_of k old n event ≡ []) × (new_of k old n event ≡ [])
 
-unless : {A : Type 0} (b : Bool) (xs : List A) → xs ≡ [] → (if b then [] else xs) ≡ []
-unless true xs e = refl
-unless false xs e = e
+  module _ (numbers : HasAppNumbers old) (none_ends : (cause : Cause) (gone : List Container) → ((c : Container) → IsIn c gone → IsIn c old.nodes.live) → k.ends cause n gone ≡ []) (missing : app_at old n ≡ None) where
+    -- no application that is there has the number
+    other : (m : ℕ) → IsSome (app_at old m) → (b : Bool) → m == n ≡ b → m == n ≡ false
+    other m there true e = let same : m ≡ n = grind (arith, nat_tests, e) in absurd (not_none (app_at old m) (ap (app_at old) same ∙ missing) there)
+    other m there false e = e
 
-module _ {K : ℕ} (old : Flat K) (n : ℕ) (missing : app_at old n ≡ None) where
-  -- who is not there is told nothing
-  reply_is_refused : (app id : ℕ) (asks : List Ask) (releases : List ℕ) → app == n ≡ true → reply_to old (Request.Allocate app id asks releases) ≡ Reply.Refused Refusal.UnknownApplication
-  reply_is_refused app id asks releases e =
-      let same : app ≡ n = grind (arith, nat_tests, e) in
-      let gone : app_at old app ≡ None = ap (app_at old) same ∙ missing in
-      let unknown : allocate_refusal old app id asks ≡ Some Refusal.UnknownApplication = where_true (is_none (app_at old app)) (Some Refusal.UnknownApplication) _ (ap is_none gone) in
-      ap (λ o. refused_or o (λ refusal. Reply.Refused refusal) (granted_reply old (Request.Allocate app id asks releases))) unknown
+    call_quiet : (by : ℕ) (new : Flat K) {request : Request K} {reply : Reply K} → Effect old request reply new → IsQuietAt (Event.Call by request reply)
+    call_quiet by new (Effect.nothing quiet) = let q = quiet by n in rw (q.0, q.1) (refl, refl)
+    call_quiet by new (Effect.allocate m id asks releases there fresh) =
+        rw (other m there (m == n) refl, fresh) (refl, none_ends Cause.Released (released_by old m releases) (λ c i. (of_filter (λ (x : Container). x.app == m) old.nodes.live c (named_in releases (containers_of old.nodes m) c i)).1))
+    call_quiet by new (Effect.heartbeat node id ended fresh) =
+        rw fresh (refl, none_ends Cause.EndedOnNode (ended_by old node ended) (λ c i. (of_filter (λ (x : Container). x.node == node) old.nodes.live c (named_in ended (containers_on old.nodes node) c i)).1))
+    call_quiet by new (Effect.node_gone node) = (refl, none_ends Cause.NodeLost (containers_on old.nodes node) (λ c i. (of_filter (λ (x : Container). x.node == node) old.nodes.live c i).1))
+    call_quiet by new _ = (refl, refl)
 
-  abbrev IsSilent : Event K → Type 0
-  IsSilent event = (told_grants old n event ≡ []) × (told_ends old n event ≡ [])
-
-  elsewhere_silent : (by app id : ℕ) (asks : List Ask) (releases : List ℕ) (reply : Reply K) → app == n ≡ false → IsSilent (Event.Call by (Request.Allocate app id asks releases) reply)
-  elsewhere_silent by app id asks releases (Reply.Allocate reply) e = (ap (λ b. cond (b && not (is_repeated_allocate old app id)) reply.grants []) e, ap (λ b. cond (b && not (is_repeated_allocate old app id)) reply.ends []) e)
-  elsewhere_silent by app id asks releases _ e = (refl, refl)
-
-  refused_silent : (by : ℕ) (request : Request K) (reply : Reply K) (refusal : Refusal) → reply ≡ Reply.Refused refusal → IsSilent (Event.Call by request reply)
-  refused_silent by request reply refusal e = let r = refused_tells old n by request refusal in subst (λ x. IsSilent (Event.Call by request x)) (sym e) (r.0, r.1)
-
-  call_silent : (by : ℕ) (request : Request K) (reply : Reply K) → reply ≡ reply_to old request → IsSilent (Event.Call by request reply)
-  call_silent by (Request.Allocate app id asks releases) reply r = mine (app == n) refl
-    where
-      mine : (b : Bool) → app == n ≡ b → IsSilent (Event.Call by (Request.Allocate app id asks releases) reply)
-      mine true e = refused_silent by (Request.Allocate app id asks releases) reply Refusal.UnknownApplication (r ∙ reply_is_refused app id asks releases e)
-      mine false e = elsewhere_silent by app id asks releases reply e
-  call_silent by _ reply r = (refl, refl)
-
-  silent : (new : Flat K) (event : Event K) → Step old event new → IsSilent event
-  silent new (Event.Call by request reply) (inl r) = call_silent by request reply (r.0)
-  silent new (Event.Call by request reply) (inr r) = refused_silent by request reply Refusal.NoMemory (r.0.reply_is)
-  silent new (Event.Grant c) s = (refl, refl)
-  silent new (Event.Reserve r) s = (refl, refl)
-
-  -- and granted nothing
-  grants_nothing : (new : Flat K) (event : Event K) → HasAppNumbers old → Step old event new → new_grants old n event ≡ []
-  grants_nothing new (Event.Call by request reply) numbers s = refl
-  grants_nothing new (Event.Grant c) numbers (admissible, number, after) = mine (c.app == n) refl
-    where
-      mine : (b : Bool) → c.app == n ≡ b → cond b (news_of old c ∷ []) [] ≡ []
-      mine true e =
-          let same : c.app ≡ n = grind (arith, nat_tests, e) in
-          let there = (seen_is old numbers c.app (admissible.0).registered).at in
-          absurd (cc (sym there ∙ ap (app_at old) same ∙ missing))
-      mine false e = refl
-  grants_nothing new (Event.Reserve r) numbers s = refl
-
-  module _ (w : IsWellFormed old) where
-    -- and none of the live containers is its, so that none of them ends
-    pub not_live : (c : Container) → IsIn c old.nodes.live → c.app == n ≡ false
-    not_live c m = by (c.app == n) refl
+    pub quiet : (event : Event K) (new : Flat K) → Step old event new → IsQuietAt event
+    quiet event new s =
+        by_step old (λ e x. IsQuietAt e) (λ by request reply x call. call_quiet by x call)
+        (λ c admissible number. rw (other c.app (there (seen_is old numbers c.app (admissible.0).registered).at) (c.app == n) refl) (refl, refl)) (λ r admissible. (refl, refl)) event new s
       where
-        by : (b : Bool) → c.app == n ≡ b → b ≡ false
-        by true e =
-            let same : c.app ≡ n = grind (arith, nat_tests, e) in
-            absurd (not_none (app_at old c.app) (ap (app_at old) same ∙ missing) (each_of (λ (x : Container). AreThere old x.app x.node) old.nodes.live w.live c m).0)
-        by false e = refl
+        there : {o : Option App} {a : App} → o ≡ Some a → IsSome o
+        there e = cc e
 
-    on_node : (node : ℕ) (c : Container) → IsIn c (containers_on old.nodes node) → c.app == n ≡ false
-    on_node node c m = not_live c (of_filter (λ (x : Container). x.node == node) old.nodes.live c m).1
+  module _ (there : IsSome (app_at old n)) where
+    call_going : (by : ℕ) (new : Flat K) {request : Request K} {reply : Reply K} → app_at new n ≡ None → Effect old request reply new → IsQuietAt (Event.Call by request reply)
+    call_going by new e (Effect.nothing quiet) = let q = quiet by n in rw (q.0, q.1) (refl, refl)
+    call_going by new e (Effect.allocate m id asks releases some fresh) = absurd (kept_change old new (allocate_change old m id asks releases) n there e)
+    call_going by new e (Effect.heartbeat node id ended fresh) = absurd (kept_change old new (ends_change Cause.EndedOnNode (ended_by old node ended) old new refl refl) n there e)
+    call_going by new e (Effect.node_gone node) = absurd (kept_change old new (ends_change Cause.NodeLost (containers_on old.nodes node) old new refl refl) n there e)
+    call_going by new e _ = (refl, refl)
 
-    released_elsewhere : (app : ℕ) (releases : List ℕ) → app == n ≡ false → ends_of Cause.Released n (released_by old app releases) ≡ []
-    released_elsewhere app releases e =
-        none_of Cause.Released n (released_by old app releases)
-        (λ c m.
-        let its = (of_filter (λ (x : Container). x.app == app) old.nodes.live c (named_in releases (filter (λ x. x.app == app) old.nodes.live) c m)).0 in
-        grind (arith, nat_tests, its, e))
+    going : (event : Event K) (new : Flat K) → Step old event new → app_at new n ≡ None → IsQuietAt event
+    going event new s =
+        by_step old (λ event x. app_at x n ≡ None → IsQuietAt event) (λ by request reply x call e. call_going by x e call)
+        (λ c admissible number e. absurd (kept_change old (after_grant old c) (grant_change old c) n there e)) (λ r admissible e. (refl, refl)) event new s
 
-    call_ends : (by : ℕ) (request : Request K) (reply : Reply K) → reply ≡ reply_to old request → new_ends old n (Event.Call by request reply) ≡ []
-    call_ends by (Request.Allocate app id asks releases) reply r = mine (app == n) refl reply r
-      where
-        mine : (b : Bool) → app == n ≡ b → (reply : Reply K) → reply ≡ reply_to old (Request.Allocate app id asks releases) → new_ends old n (Event.Call by (Request.Allocate app id asks releases) reply) ≡ []
-        mine true e reply r = ap (λ x. new_ends old n (Event.Call by (Request.Allocate app id asks releases) x)) (r ∙ reply_is_refused app id asks releases e)
-        mine false e (Reply.Allocate reply) r = unless (is_repeated_allocate old app id) (ends_of Cause.Released n (released_by old app releases)) (released_elsewhere app releases e)
-        mine false e _ r = refl
-    call_ends by (Request.Heartbeat node id ended) (Reply.Heartbeat reply) r =
-        unless (is_repeated_heartbeat old node id) (ends_of Cause.EndedOnNode n (ended_by old node ended))
-        (none_of Cause.EndedOnNode n (ended_by old node ended) (λ c m. on_node node c (named_in ended (containers_on old.nodes node) c m)))
-    call_ends by (Request.NodeGone node) (Reply.NodeGone count) r = none_of Cause.NodeLost n (containers_on old.nodes node) (on_node node)
-    call_ends by _ _ r = refl
+-- the law of a run, for what holds of its states
 
-    pub ends_nothing : (new : Flat K) (event : Event K) → Step old event new → new_ends old n event ≡ []
-    ends_nothing new (Event.Call by request reply) (inl r) = call_ends by request reply (r.0)
-    ends_nothing new (Event.Call by request reply) (inr r) = ap (λ x. new_ends old n (Event.Call by request x)) (r.0.reply_is) ∙ (refused_tells old n by request Refusal.NoMemory).2
-    ends_nothing new (Event.Grant c) s = refl
-    ends_nothing new (Event.Reserve r) s = refl
+-- a first step and the rest, put together
+told_joined : {A : Type 0} (told rest left before after new more : List A) → told ++ after ≡ before ++ new → rest ++ left ≡ after ++ more → (told ++ rest) ++ left ≡ before ++ (new ++ more)
+told_joined told rest left before after new more first tail =
+    append_assoc told rest left ∙ ap (λ xs. told ++ xs) tail ∙ sym (append_assoc told after more) ∙ ap (λ xs. xs ++ more) first ∙ append_assoc before new more
+
+-- what holds of each state of a run, and says that no end is told of live containers to an application that is not there
+record IsKept {N : Type 0} (k : News N) {K : ℕ} (Good : Flat K → Type 0) : Type 0 where
+  numbers : (c : Flat K) → Good c → HasAppNumbers c
+  stays : (old mid : Flat K) (event : Event K) → Good old → Step old event mid → Good mid
+  none_ends : (c : Flat K) (n : ℕ) → Good c → app_at c n ≡ None → (cause : Cause) (gone : List Container) → ((x : Container) → IsIn x gone → IsIn x c.nodes.live) → k.ends cause n gone ≡ []
+
+module _ {N : Type 0} {k : News N} {K : ℕ} {told new : Flat K → ℕ → Event K → List N} {ever_told ever_new : Flat K → ℕ → List (Event K) → List N} {Good : Flat K → Type 0} (is : IsNews k) (are : AreTold k told new ever_told ever_new) (good : IsKept k Good) (n : ℕ) where
+  nothing : (old : Flat K) (event : Event K) → IsQuietAt k old n event → (told old n event ≡ []) × (new old n event ≡ [])
+  nothing old event q = (are.told_is old n event ∙ q.0, are.new_is old n event ∙ q.1)
+
+  quietly : (old mid : Flat K) (event : Event K) → Good old → Step old event mid → app_at old n ≡ None → (told old n event ≡ []) × (new old n event ≡ [])
+  quietly old mid event g step e = nothing old event (quiet k old n (good.numbers old g) (good.none_ends old n g e) e event mid step)
+
+  -- after an event of which nothing is told and to which nothing is added
+  then_nothing : (old mid : Flat K) (event : Event K) (events : List (Event K)) → Step old event mid → (told old n event ≡ []) × (new old n event ≡ []) → (ever_told mid n events ≡ []) × (ever_new mid n events ≡ []) →
+      (ever_told old n (event ∷ events) ≡ []) × (ever_new old n (event ∷ events) ≡ [])
+  then_nothing old mid event events step q rest =
+      let at = determined old mid event step in
+      let more = are.more old n event events in
+      (more.0 ∙ (λ i. (q.0) i ++ (ap (λ c. ever_told c n events) (sym at) ∙ rest.0) i), more.1 ∙ (λ i. (q.1) i ++ (ap (λ c. ever_new c n events) (sym at) ∙ rest.1) i))
+
+  never : (events : List (Event K)) (old close : Flat K) → Good old → app_at old n ≡ None → n < old.apps.next → Run old events close → (ever_told old n events ≡ []) × (ever_new old n events ≡ [])
+  never [] old close g e h run = are.start old n
+  never (event ∷ events) old close g e h (mid, step, run) =
+      let still = spent (step_moves old mid event step) n e h in
+      then_nothing old mid event events step (quietly old mid event g step e) (never events mid close (good.stays old mid event g step) (still.0) (still.1) run)
+
+  -- the law
+  abbrev IsToldOver : List (Event K) → Flat K → Flat K → Type 0
+  IsToldOver events old close = (left : List N) × (ever_told old n events ++ left ≡ untold k old n ++ ever_new old n events) × (IsSome (app_at close n) → left ≡ untold k close n)
+
+  -- where nothing is told and nothing added, all is left
+  untouched : (events : List (Event K)) (old : Flat K) → (ever_told old n events ≡ []) × (ever_new old n events ≡ []) → ever_told old n events ++ untold k old n ≡ untold k old n ++ ever_new old n events
+  untouched events old e = ap (λ xs. xs ++ untold k old n) (e.0) ∙ sym (append-nil (untold k old n)) ∙ ap (λ xs. untold k old n ++ xs) (sym (e.1))
+
+  run_tells : (events : List (Event K)) (old close : Flat K) → Good old → Run old events close → IsToldOver events old close
+  run_tells [] old close g run = (untold k old n, untouched [] old (are.start old n), λ h. ap (λ (c : Flat K). untold k c n) run)
+  run_tells (event ∷ events) old close g (mid, step, run) = by (run_tells events mid close (good.stays old mid event g step) run) (there_or_not (app_at mid n)) (there_or_not (app_at old n))
+    where
+      none : (c : Flat K) → app_at c n ≡ None → untold k c n ≡ []
+      none c e = ap (λ o. option_map_or k.of o []) e
+
+      joined : IsToldOver events mid close → told old n event ++ untold k mid n ≡ untold k old n ++ new old n event → IsToldOver (event ∷ events) old close
+      joined rest first =
+          let more = are.more old n event events in (
+            rest.0,
+            ap (λ xs. xs ++ rest.0) (more.0)
+                ∙ told_joined (told old n event) (ever_told (after_event old event) n events) (rest.0) (untold k old n) (untold k mid n) (new old n event) (ever_new (after_event old event) n events) first
+                (subst (λ c. ever_told c n events ++ rest.0 ≡ untold k mid n ++ ever_new c n events) (determined old mid event step) (rest.1))
+                ∙ ap (λ xs. untold k old n ++ xs) (sym (more.1)),
+            rest.2,
+          )
+
+      by : IsToldOver events mid close → (IsSome (app_at mid n) ⊎ (app_at mid n ≡ None)) → (IsSome (app_at old n) ⊎ (app_at old n ≡ None)) → IsToldOver (event ∷ events) old close
+      by rest (inl a) b = joined rest (told_in_order is are old mid n event step a)
+      by rest (inr a) (inr b) =
+          let q = quietly old mid event g step b in
+          joined rest ((λ i. (q.0) i ++ none mid a i) ∙ sym (λ i. none old b i ++ (q.1) i))
+      by rest (inr a) (inl b) =
+          let below : n < mid.apps.next = omega (arith, used (λ (x : App). x.number) old.apps.active old.apps.next n (good.numbers old g) b, next_rises (step_moves old mid event step)) in (
+            untold k old n,
+            untouched (event ∷ events) old (then_nothing old mid event events step (nothing old event (going k old n b event mid step a)) (never events mid close (good.stays old mid event g step) a below run)),
+            λ h. absurd (not_none (app_at close n) (never_back events mid close n a below run) h),
+          )
 
 module _ {K : ℕ} where
-  -- an application that goes is told nothing by the step, and nothing is added for it
-  gone_quietly : (old new : Flat K) (n : ℕ) (event : Event K) → Step old event new → IsSome (app_at old n) → app_at new n ≡ None →
-      ((told_grants old n event ≡ []) × (new_grants old n event ≡ [])) × (told_ends old n event ≡ []) × (new_ends old n event ≡ [])
-  gone_quietly old new n (Event.Call by (Request.Allocate app id asks releases) reply) s h e = absurd (kept_change old new (allocate_changes old new app id asks releases reply s) n h e)
-  gone_quietly old new n (Event.Call by (Request.Heartbeat node id ended) reply) s h e = absurd (kept_change old new (beat_changes old new node id ended reply s) n h e)
-  gone_quietly old new n (Event.Call by (Request.NodeGone node) reply) s h e = absurd (kept_change old new (lost_changes old new node reply s) n h e)
-  gone_quietly old new n (Event.Call by _ reply) s h e = ((refl, refl), refl, refl)
-  gone_quietly old new n (Event.Grant c) (admissible, number, after) h e = absurd (kept_change old new (subst (λ x. AppsChange old x) (sym after) (grant_change old c)) n h e)
-  gone_quietly old new n (Event.Reserve r) s h e = ((refl, refl), refl, refl)
+  -- of a well-formed cluster no live container is of an application that is not there
+  pub not_live : (old : Flat K) (n : ℕ) → IsWellFormed old → app_at old n ≡ None → (c : Container) → IsIn c old.nodes.live → c.app == n ≡ false
+  not_live old n w missing c m = by (c.app == n) refl
+    where
+      by : (b : Bool) → c.app == n ≡ b → b ≡ false
+      by true e =
+          let same : c.app ≡ n = grind (arith, nat_tests, e) in
+          absurd (not_none (app_at old c.app) (ap (app_at old) same ∙ missing) (each_of (λ (x : Container). AreThere old x.app x.node) old.nodes.live w.live c m).0)
+      by false e = refl
 
-  grants_over : IsTold (λ c. HasAppNumbers {K = K} c) untold_grants told_grants new_grants ever_told_grants ever_new_grants
-  grants_over = record {
-    numbers = λ c g. g;
-    stays = λ old mid event g step. app_numbers_move old mid (step_moves old mid event step) g;
-    in_order = λ old mid n event step h. grants_are_told_in_order K old mid n event step h;
-    nothing = λ c n e. ap (λ o. option_map_or (λ (app : App). app.grants) o []) e;
-    quiet = λ old mid n event g step e. ((silent old n e mid event step).0, grants_nothing old n e mid event g step);
-    going = λ old mid n event step h e. (gone_quietly old mid n event step h e).0;
-    start = λ c n. (refl, refl);
-    more = λ c n event events. (refl, refl);
-  }
+  pub none_ends : (old : Flat K) (n : ℕ) → IsWellFormed old → app_at old n ≡ None → (cause : Cause) (gone : List Container) → ((c : Container) → IsIn c gone → IsIn c old.nodes.live) → ends_of cause n gone ≡ []
+  none_ends old n w missing cause gone live =
+      ap (map (λ c. record { container = c.number; cause = cause })) (filter_none (λ (c : Container). c.app == n) gone (λ c m. not_live old n w missing c (live c m)))
 
-  ends_over : IsTold (λ c. IsWellFormed {K = K} c) untold_ends told_ends new_ends ever_told_ends ever_new_ends
-  ends_over = record {
-    numbers = λ c w. w.apps;
-    stays = λ old mid event w step. step_formed old mid event w step;
-    in_order = λ old mid n event step h. ends_are_told_in_order K old mid n event step h;
-    nothing = λ c n e. ap (λ o. option_map_or (λ (app : App). app.ends) o []) e;
-    quiet = λ old mid n event w step e. ((silent old n e mid event step).1, ends_nothing old n e w mid event step);
-    going = λ old mid n event step h e. let q = gone_quietly old mid n event step h e in (q.1, q.2);
-    start = λ c n. (refl, refl);
-    more = λ c n event events. (refl, refl);
-  }
+  grants_kept : IsKept grants (λ (c : Flat K). HasAppNumbers c)
+  grants_kept = record { numbers = λ c g. g; stays = λ old mid event g step. numbers_move (step_moves old mid event step) g; none_ends = λ c n g e cause gone live. refl }
+
+  ends_kept : IsKept ends (λ (c : Flat K). IsWellFormed c)
+  ends_kept = record { numbers = λ c w. w.apps; stays = step_formed; none_ends = none_ends }
 
 pub grants_are_told_over_runs : GrantsAreToldOverRuns
-grants_are_told_over_runs K events old new n r run = run_tells _ _ _ _ _ _ grants_over n events old new r run
+grants_are_told_over_runs K events old new n r run = run_tells grants_are grants_told grants_kept n events old new r run
 
 pub ends_are_told_over_runs : EndsAreToldOverRuns
-ends_are_told_over_runs K events old new n w run = run_tells _ _ _ _ _ _ ends_over n events old new w run
+ends_are_told_over_runs K events old new n w run = run_tells ends_are ends_told ends_kept n events old new w run
 
 -- the grants that are added are those of the containers granted
 

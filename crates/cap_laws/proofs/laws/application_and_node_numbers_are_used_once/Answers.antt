@@ -1,5 +1,4 @@
-use Rattle.cap_laws.proofs.numbers.AppNumbers.{app_numbers_stay_distinct}
-use Rattle.cap_laws.proofs.numbers.UsedNumbers.{numbers_are_not_used_again}
+use Rattle.cap_laws.proofs.numbers.AppNumbers.{app_numbers_stay_distinct, numbers_are_not_used_again}
 use Rattle.cap_laws.proofs.laws.application_and_node_numbers_are_used_once.Goals as goal
 
 pub returns-clause-distinct : goal.returns-clause-distinct
