@@ -1,7 +1,7 @@
 -- A call keeps the bounds: it only takes away.
 use Rattle.cap_laws.proofs.Prelude.{◌≡◌, ℕ, ◌≤◌, Bool, true, false, List, [], ◌∷◌, refl, sym, ◌∙◌, ap, subst, inl, inr, arith, ◌==◌, filter, map, if◌then◌else◌, All, list_any, sum_by, cases_lt, or_from, nat_tests, amount, fits, Flat, App, ClusterNode, Container, Reservation, app_at, node_at, use_of, node_held, IsRising, AreApart, IsNodeBounded, IsIn, each_of, of_each, or_left, or_right, some_kept, sum_by_agree, sum_of_zeros, same_counts, counted, live_part, reserved_part, use_amount, use_past, held_amount, held_past, fits_amounts, amounts_fit}
 use Rattle.cap_laws.proofs.lists.Parts.{IsPart, part_filter, part_sum}
-use Rattle.cap_laws.proofs.calls.Lessening.{IsLessened, IsSite, HasPlaces, site_before}
+use Rattle.cap_laws.proofs.calls.Lessening.{IsLessened, IsSite, HasPlaces, site_before, its_standing, its_capacity}
 use Rattle.cap_laws.proofs.lists.Tables.{used, each_after}
 
 -- some of the reservations are on different nodes too
@@ -21,9 +21,10 @@ apart_part (r ∷ rs) ss (inr (zs, e, p)) a = subst AreApart (sym e) (none_of_pa
 module _ {K : ℕ} (old new : Flat K) (less : IsLessened old new) (h : HasPlaces old) where
   pub places_stay : HasPlaces new
   places_stay app node s =
-      let b = site_before old new less.live less.reserved app node s in
-      let p = h app node b in
-      (some_kept (λ (a : App). (a.leaf, a.user)) (app_at new app) (app_at old app) (less.apps app node s) p.0, some_kept (λ (x : ClusterNode). x.total) (node_at new node) (node_at old node) (less.nodes app node s) p.1)
+      let p = h app node (site_before old new less app node s) in (
+        some_kept (λ (a : App). (a.leaf, a.user)) (app_at new app) (app_at old app) (its_standing old new less app node h s) p.0,
+        some_kept (λ (x : ClusterNode). x.total) (node_at new node) (node_at old node) (its_capacity old new less app node h s) p.1,
+      )
 
   -- a use only falls
   pub use_falls : (test : List ℕ → List ℕ → Bool) (k : ℕ) → amount (use_of new (λ a. test a.leaf a.user)) k ≤ amount (use_of old (λ a. test a.leaf a.user)) k
@@ -33,7 +34,7 @@ module _ {K : ℕ} (old new : Flat K) (less : IsLessened old new) (h : HasPlaces
   ]
     where
       same : (app node : ℕ) (resource : List ℕ) → IsSite new app node → counted new test k app resource ≡ counted old test k app resource
-      same app node resource s = ap (λ b. if b then amount resource k else 0) (same_counts test (app_at new app) (app_at old app) (less.apps app node s))
+      same app node resource s = ap (λ b. if b then amount resource k else 0) (same_counts test (app_at new app) (app_at old app) (its_standing old new less app node h s))
 
       live : live_part new test k new.nodes.live ≤ live_part old test k old.nodes.live
       live =
@@ -64,7 +65,7 @@ module _ {K : ℕ} (old new : Flat K) (less : IsLessened old new) (h : HasPlaces
   pub nodes_stay : IsRising 1 (map (λ node. node.number) old.nodes.present) old.nodes.next_node → All (IsNodeBounded old) old.nodes.present → All (IsNodeBounded new) new.nodes.present
   nodes_stay r b =
       of_each (IsNodeBounded new) new.nodes.present
-      (each_after (IsNodeBounded new) (λ f number total x fit. (λ i. fits (node_held new (number x i)) (total x i)) ∙ fit) (λ x number e. by x (λ k. let none = nothing x.number number k in omega (arith, none))) less.present
+      (each_after (IsNodeBounded new) (λ f number total x fit. (λ i. fits (node_held new (number x i)) (total x i)) ∙ fit) (λ x number e. by x (λ k. let none = nothing x.number number k in omega (arith, none))) less.nodes
       (λ x m. by x (fits_amounts (node_held old x.number) x.total (each_of (IsNodeBounded old) old.nodes.present b x m))))
     where
       by : (x : ClusterNode) → ((k : ℕ) → amount (node_held old x.number) k ≤ amount x.total k) → IsNodeBounded new x

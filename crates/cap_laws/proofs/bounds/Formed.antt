@@ -1,5 +1,5 @@
 -- A step keeps a cluster well-formed.
-use Rattle.cap_laws.proofs.Prelude.{◌≡◌, ℕ, Bool, false, List, [], ◌∷◌, ◌++◌, refl, sym, ◌∙◌, ap, subst, inl, inr, Option, Some, None, IsSome, is_some, is_none, not, ◌||◌, ◌==◌, find, map, option_map, bytes_eq, nat_eq, if◌then◌else◌, All, list_any, starts_with, option_map_or, QueueRow, Settings, Request, Reply, Refusal, Flat, App, Container, Reservation, app_at, queue_at, is_under, has_children, submit_refusal, is_running, refreshed_queue, refreshed_settings, first_of_settings, after_refresh, Event, Step, after_grant, after_reserve, grant_proposal, reserve_proposal, sight_of, NodeProposal, IsAdmissible, settings_in, HasDistinctPaths, IsTree, StandBelow, IsLeaf, AreThere, IsWellFormed, StepStaysWellFormed, is_refresh, refreshes, kept_if, after_set_queue_state, of_filter, in_either, each_of, of_each, of_map, true_of_none, some_kept}
+use Rattle.cap_laws.proofs.Prelude.{◌≡◌, ℕ, Bool, true, false, List, [], ◌∷◌, ◌++◌, refl, sym, ◌∙◌, ap, subst, inl, inr, Option, Some, None, IsSome, is_some, not, ◌||◌, ◌==◌, find, map, option_map, bytes_eq, nat_eq, if◌then◌else◌, All, list_any, starts_with, option_map_or, QueueRow, Settings, Request, Reply, Flat, App, Container, Reservation, app_at, queue_at, is_under, submit_refusal, refreshed_queue, refreshed_settings, first_of_settings, after_refresh, Event, Step, after_grant, after_reserve, grant_proposal, reserve_proposal, sight_of, NodeProposal, IsAdmissible, settings_in, HasDistinctPaths, IsTree, StandBelow, IsLeaf, AreThere, IsWellFormed, StepStaysWellFormed, is_refresh, refreshes, kept_if, of_filter, in_either, each_of, of_each, of_map, true_of_none, some_kept}
 use Rattle.cap_laws.proofs.choice.Reasons.{none_holds}
 use Rattle.cap_laws.proofs.lists.Tables.{numbers_move, each_after}
 use Rattle.cap_laws.proofs.calls.Steps.{Effect, by_step}
@@ -7,11 +7,11 @@ use Rattle.cap_laws.proofs.calls.Moves.{AppsMove, NodesMove, asked, grant_change
 use Rattle.cap_laws.proofs.calls.Lessening.{HasPlaces, IsSite, lessened, change_stands}
 use Rattle.cap_laws.proofs.bounds.CallBounds.{places_stay}
 use Rattle.cap_laws.proofs.choice.Proposers.{seen_is, node_seen}
+use Rattle.cap_laws.proofs.calls.Registering.{submit_tests}
 use Rattle.cap_laws.proofs.calls.Refreshing.{find_kept, refreshed_path}
 
--- a queue whose state changes, at most
+-- the limits of a queue stay
 pub record KeepsQueue (f : QueueRow → QueueRow) : Type 0 where
-  pub path : (q : QueueRow) → (f q).path ≡ q.path
   pub guaranteed : (q : QueueRow) → (f q).guaranteed ≡ q.guaranteed
   pub maximum : (q : QueueRow) → (f q).maximum ≡ q.maximum
   pub factor : (q : QueueRow) → (f q).factor ≡ q.factor
@@ -54,81 +54,54 @@ tree_kept f e qs t = record {
 }
 
 module _ {K : ℕ} where
-  -- queues of the same paths, in the same order
-  pub record HasSamePaths (old new : Flat K) : Type 0 where
+  -- queues of the same paths, in the same order, and with the same limits unless there was a Refresh
+  pub record QueuesMove (refreshed : Bool) (old new : Flat K) : Type 0 where
     pub change : QueueRow → QueueRow
     pub path : (q : QueueRow) → (change q).path ≡ q.path
+    pub keeps : refreshed ≡ false → KeepsQueue change
     pub queues : new.settings.queues ≡ map change old.settings.queues
 
-  -- the same queues, but for their states
-  pub record HasSameQueues (old new : Flat K) : Type 0 where
-    pub change : QueueRow → QueueRow
-    pub keeps : KeepsQueue change
-    pub queues : new.settings.queues ≡ map change old.settings.queues
-
-  paths_of : (old new : Flat K) → HasSameQueues old new → HasSamePaths old new
-  paths_of old new s = record { change = s.change; path = s.keeps.path; queues = s.queues }
-
-  pub same_queues : (old new : Flat K) → new.settings ≡ old.settings → HasSameQueues old new
+  pub same_queues : {refreshed : Bool} (old new : Flat K) → new.settings ≡ old.settings → QueuesMove refreshed old new
   same_queues old new e = record {
     change = λ q. q;
-    keeps = record { path = λ q. refl; guaranteed = λ q. refl; maximum = λ q. refl; factor = λ q. refl };
+    path = λ q. refl;
+    keeps = λ h. record { guaranteed = λ q. refl; maximum = λ q. refl; factor = λ q. refl };
     queues = ap (λ (s : Settings). s.queues) e ∙ sym (Rattle.std.proofs.lemmas.List.map-id old.settings.queues);
   }
 
-  pub same_paths : (old new : Flat K) → new.settings ≡ old.settings → HasSamePaths old new
-  same_paths old new e = paths_of old new (same_queues old new e)
+  -- a Refresh sets all but the path of each queue
+  refresh_queues : (old : Flat K) (text : List ℕ) → QueuesMove true old (after_refresh old text)
+  refresh_queues old text = by (settings_in text)
+    where
+      by : (o : Option Settings) → QueuesMove true old (record old { settings = option_map_or (λ settings. refreshed_settings (first_of_settings K settings) old.settings) o old.settings })
+      by None = same_queues old old refl
+      by (Some settings) =
+          let rows = (first_of_settings K settings).queues in
+          record { change = refreshed_queue rows; path = refreshed_path rows; keeps = λ h. absurd (cc h); queues = refl }
 
-  -- a queue is started or stopped
-  state_queues : (old : Flat K) (path : List ℕ) (running : Bool) → HasSameQueues old (after_set_queue_state old path running)
-  state_queues old path running =
+  call_queues : (old new : Flat K) {request : Request K} {reply : Reply K} → Effect old request reply new → QueuesMove (is_refresh request) old new
+  call_queues old new (Effect.allocate app id asks releases there fresh) = same_queues old new (asked app asks old).settings
+  call_queues old new (Effect.set_queue_state path running) =
       let set : QueueRow → QueueRow = λ q. record q { running = running } in
       record {
         change = λ q. if bytes_eq q.path path then set q else q;
-        keeps = record {
-          path = λ q. kept_if (bytes_eq q.path path) (λ (x : QueueRow). x.path) (set q) q refl;
+        path = λ q. kept_if (bytes_eq q.path path) (λ (x : QueueRow). x.path) (set q) q refl;
+        keeps = λ h. record {
           guaranteed = λ q. kept_if (bytes_eq q.path path) (λ (x : QueueRow). x.guaranteed) (set q) q refl;
           maximum = λ q. kept_if (bytes_eq q.path path) (λ (x : QueueRow). x.maximum) (set q) q refl;
           factor = λ q. kept_if (bytes_eq q.path path) (λ (x : QueueRow). x.factor) (set q) q refl;
         };
         queues = refl;
       }
+  call_queues old new (Effect.refresh text) = refresh_queues old text
+  call_queues old new _ = same_queues old new refl
 
-  -- a call that is no Refresh
-  call_queues : (old new : Flat K) {request : Request K} {reply : Reply K} → is_refresh request ≡ false → Effect old request reply new → HasSameQueues old new
-  call_queues old new e (Effect.allocate app id asks releases there fresh) = same_queues old new (asked app asks old).settings
-  call_queues old new e (Effect.set_queue_state path running) = state_queues old path running
-  call_queues old new e (Effect.refresh text) = absurd (cc e)
-  call_queues old new e _ = same_queues old new refl
+  pub step_queues : (old new : Flat K) (event : Event K) → Step old event new → QueuesMove (refreshes event) old new
+  step_queues old new event s =
+      by_step old (λ event x. QueuesMove (refreshes event) old x) (λ by request reply x call. call_queues old x call) (λ c admissible number. same_queues old (after_grant old c) refl)
+      (λ r admissible. same_queues old (after_reserve old r) refl) event new s
 
-  -- a Refresh sets all but the path of each queue
-  refresh_paths : (old : Flat K) (text : List ℕ) → HasSamePaths old (after_refresh old text)
-  refresh_paths old text = by (settings_in text)
-    where
-      by : (o : Option Settings) → HasSamePaths old (record old { settings = option_map_or (λ settings. refreshed_settings (first_of_settings K settings) old.settings) o old.settings })
-      by None = same_paths old old refl
-      by (Some settings) =
-          let rows = (first_of_settings K settings).queues in
-          record { change = refreshed_queue rows; path = refreshed_path rows; queues = refl }
-
-  call_paths : (old new : Flat K) {request : Request K} {reply : Reply K} → Effect old request reply new → HasSamePaths old new
-  call_paths old new (Effect.allocate app id asks releases there fresh) = same_paths old new (asked app asks old).settings
-  call_paths old new (Effect.set_queue_state path running) = paths_of old new (state_queues old path running)
-  call_paths old new (Effect.refresh text) = refresh_paths old text
-  call_paths old new _ = same_paths old new refl
-
-  -- a step that is no Refresh keeps the queues, and each step keeps their paths
-  pub step_queues : (old new : Flat K) (event : Event K) → refreshes event ≡ false → Step old event new → HasSameQueues old new
-  step_queues old new event e s =
-      by_step old (λ event x. refreshes event ≡ false → HasSameQueues old x) (λ by request reply x call e. call_queues old x e call) (λ c admissible number e. same_queues old (after_grant old c) refl)
-      (λ r admissible e. same_queues old (after_reserve old r) refl) event new s e
-
-  step_paths : (old new : Flat K) (event : Event K) → Step old event new → HasSamePaths old new
-  step_paths old new event s =
-      by_step old (λ event x. HasSamePaths old x) (λ by request reply x call. call_paths old x call) (λ c admissible number. same_paths old (after_grant old c) refl)
-      (λ r admissible. same_paths old (after_reserve old r) refl) event new s
-
-  leaf_kept : (old new : Flat K) → HasSamePaths old new → (path : List ℕ) → IsLeaf old path → IsLeaf new path
+  leaf_kept : {refreshed : Bool} (old new : Flat K) → QueuesMove refreshed old new → (path : List ℕ) → IsLeaf old path → IsLeaf new path
   leaf_kept old new s path l = record {
     present = subst (λ qs. IsSome (find (λ (r : QueueRow). bytes_eq r.path path) qs)) (sym s.queues) (found_kept s.change s.path path old.settings.queues l.present);
     childless = ap (list_any (λ (q : QueueRow). starts_with nat_eq q.path (path ++ 46 ∷ []))) s.queues
@@ -138,17 +111,9 @@ module _ {K : ℕ} where
 
   -- a queue to which a submit is not refused is a leaf
   pub unrefused_leaf : (old : Flat K) (path : List ℕ) → submit_refusal old path ≡ None → IsLeaf old path
-  unrefused_leaf old path e =
-      let tests = none_holds
-      ((is_none (queue_at old path), Refusal.UnknownQueue)
-      ∷ (has_children old path, Refusal.NotLeaf)
-      ∷ (not (is_running old path), Refusal.QueueStopped)
-      ∷ (Rattle.std.specs.Prelude.nat_le old.settings.application_limit (Rattle.std.specs.Prelude.length old.apps.active), Refusal.TooManyApplications)
-      ∷ (Rattle.std.specs.Prelude.nat_le Rattle.cap_base.specs.Limits.number_end old.apps.next, Refusal.NumbersSpent)
-      ∷ []) e in
-      record { present = true_of_none (queue_at old path) tests.0; childless = tests.1.0 }
+  unrefused_leaf old path e = let tests = none_holds (submit_tests old path) e in record { present = true_of_none (queue_at old path) tests.0; childless = tests.1.0 }
 
-  leaves_move : (old new : Flat K) → HasSamePaths old new → AppsMove old new → All (λ app. IsLeaf old app.leaf) old.apps.active → All (λ app. IsLeaf new app.leaf) new.apps.active
+  leaves_move : {refreshed : Bool} (old new : Flat K) → QueuesMove refreshed old new → AppsMove old new → All (λ app. IsLeaf old app.leaf) old.apps.active → All (λ app. IsLeaf new app.leaf) new.apps.active
   leaves_move old new s m leaves =
       of_each (λ app. IsLeaf new app.leaf) new.apps.active
       (λ app g. leaf_kept old new s app.leaf
@@ -169,7 +134,7 @@ module _ {K : ℕ} where
   reserved_placed cluster h = of_each (λ (r : Reservation). AreThere cluster r.app r.node) cluster.nodes.reserved (λ r m. h r.app r.node (inr (r, m, refl, refl)))
 
   -- the parts together
-  pub formed : (old new : Flat K) → IsWellFormed old → HasSamePaths old new → AppsMove old new → NodesMove old new → HasPlaces new → IsWellFormed new
+  pub formed : {refreshed : Bool} (old new : Flat K) → IsWellFormed old → QueuesMove refreshed old new → AppsMove old new → NodesMove old new → HasPlaces new → IsWellFormed new
   formed old new w s m n h = record {
     tree = subst (λ qs. IsTree qs) (sym s.queues) (tree_kept s.change s.path old.settings.queues w.tree);
     order = subst (λ qs. StandBelow qs) (sym s.queues) (order_kept s.change s.path old.settings.queues w.order);
@@ -215,11 +180,11 @@ module _ {K : ℕ} where
   step_places : (old new : Flat K) (event : Event K) → IsWellFormed old → Step old event new → HasPlaces new
   step_places old new event w s =
       let h = places_of old w in
-      by_step old (λ e x. HasPlaces x) (λ by request reply x call. places_stay old x (lessened old x h call) h)
+      by_step old (λ e x. HasPlaces x) (λ by request reply x call. places_stay old x (lessened old x call) h)
       (λ c admissible number. grant_places old c h (its_place old (grant_proposal c) w admissible)) (λ r admissible. reserve_places old r h (its_place old (reserve_proposal r) w admissible)) event new s
 
   pub step_formed : (old new : Flat K) (event : Event K) → IsWellFormed old → Step old event new → IsWellFormed new
-  step_formed old new event w s = formed old new w (step_paths old new event s) (step_moves old new event s) (step_nodes old new event s) (step_places old new event w s)
+  step_formed old new event w s = formed old new w (step_queues old new event s) (step_moves old new event s) (step_nodes old new event s) (step_places old new event w s)
 
 pub step_stays_well_formed : StepStaysWellFormed
 step_stays_well_formed K old new event w step = step_formed old new event w step

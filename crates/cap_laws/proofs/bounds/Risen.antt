@@ -6,7 +6,7 @@ use Rattle.cap_laws.proofs.calls.Refreshing.{find_kept}
 use Rattle.cap_laws.proofs.choice.Proposers.{found_by_path}
 use Rattle.cap_laws.proofs.bounds.BoundedRuns.{runs_are_bounded}
 use Rattle.cap_laws.proofs.bounds.CallBounds.{use_falls}
-use Rattle.cap_laws.proofs.bounds.Formed.{KeepsQueue, HasSameQueues, step_queues, places_of, step_formed}
+use Rattle.cap_laws.proofs.bounds.Formed.{KeepsQueue, QueuesMove, step_queues, places_of, step_formed}
 use Rattle.cap_laws.proofs.bounds.Growing.{IsGrown, grant_grows, reserve_grows, not_grown, maximum_met, limit_met}
 
 -- what is at most what fits, fits
@@ -38,7 +38,7 @@ module _ {K : ℕ} where
   step_no_more : (test : List ℕ → List ℕ → Bool) (old new : Flat K) (event : Event K) → IsWellFormed old → Step old event new → raises test old event ≡ false → IsNoMore test old new
   step_no_more test old new event w s r =
       let h = places_of old w in
-      by_step old (λ e x. raises test old e ≡ false → IsNoMore test old x) (λ by request reply x call r. use_falls old x (lessened old x h call) h test)
+      by_step old (λ e x. raises test old e ≡ false → IsNoMore test old x) (λ by request reply x call r. use_falls old x (lessened old x call) h test)
       (λ c admissible number r. not_grown old (after_grant old c) (grant_proposal c) (grant_grows old c) test r)
       (λ x admissible r. not_grown old (after_reserve old x) (reserve_proposal x) (reserve_grows old x) test r) event new s r
 
@@ -84,15 +84,15 @@ module _ {K : ℕ} where
         by None g = tt
         by (Some q) g = let r = row_at cluster path q g in f q r.0 r.1
 
-    kept : (old new : Flat K) → IsLimit K test most path → HasSameQueues old new → IsNoMore test old new → Meets old → Meets new
+    kept : (old new : Flat K) → IsLimit K test most path → QueuesMove false old new → IsNoMore test old new → Meets old → Meets new
     kept old new l s less m = subst (λ o. IfSome o (λ q. FitsMaximum (used test new) (most q))) (sym queue_after) (by (queue_at old path) m)
       where
         queue_after : queue_at new path ≡ option_map s.change (queue_at old path)
-        queue_after = ap (find (λ (q : QueueRow). bytes_eq q.path path)) s.queues ∙ find_kept s.change s.keeps.path path old.settings.queues
+        queue_after = ap (find (λ (q : QueueRow). bytes_eq q.path path)) s.queues ∙ find_kept s.change s.path path old.settings.queues
 
         by : (o : Option QueueRow) → IfSome o (λ q. FitsMaximum (used test old) (most q)) → IfSome (option_map s.change o) (λ q. FitsMaximum (used test new) (most q))
         by None h = tt
-        by (Some q) h = subst (FitsMaximum (used test new)) (sym (l.same s.change s.keeps q)) (less_in_maximum (used test new) (used test old) (most q) less h)
+        by (Some q) h = subst (FitsMaximum (used test new)) (sym (l.same s.change (s.keeps refl) q)) (less_in_maximum (used test new) (used test old) (most q) less h)
 
     -- what counts leaves the limit met, whatever it was before
     raised : (old new : Flat K) (event : Event K) → IsLimit K test most path → IsWellFormed old → Step old event new → raises test old event ≡ true → Meets new
@@ -104,7 +104,7 @@ module _ {K : ℕ} where
     stays_met : (old new : Flat K) (event : Event K) → IsLimit K test most path → IsWellFormed old → refreshes event ≡ false → Step old event new → Meets old → Meets new
     stays_met old new event l w e s m = elim (cases_Bool (raises test old event)) [
       | inl r ↦ raised old new event l w s r
-      | inr r ↦ kept old new l (step_queues old new event e s) (step_no_more test old new event w s r) m
+      | inr r ↦ kept old new l (subst (λ b. QueuesMove b old new) e (step_queues old new event s)) (step_no_more test old new event w s r) m
     ]
 
     run_stays_met : (events : List (Event K)) (old new : Flat K) → IsLimit K test most path → IsWellFormed old → list_any refreshes events ≡ false → Run old events new → Meets old → Meets new

@@ -73,17 +73,20 @@ module _ {K : ℕ} where
         reserved = part_of_part old.nodes.reserved mid.nodes.reserved (after_asks n asks mid).nodes.reserved (part_keep_first (is_for n ask.key) _ old.nodes.reserved) r.reserved;
       }
 
+  pub ask_change : (n : ℕ) (ask : Ask) (old : Flat K) → AppsChange old (after_ask n old ask)
+  ask_change n ask old = record {
+    change = λ app. if app.number == n then record app { asks = put_ask ask app.asks } else app;
+    keeps = only_app n (λ app. record app { asks = put_ask ask app.asks }) (record { number = λ a. refl; leaf = λ a. refl; user = λ a. refl });
+    active = refl;
+    next = refl;
+  }
+
   pub asks_change : (n : ℕ) (asks : List Ask) (old : Flat K) → AppsChange old (after_asks n asks old)
   asks_change n [] old = no_change old old refl refl
   asks_change n (ask ∷ asks) old =
-      two_changes old (after_ask n old (rounded_ask K old.settings ask)) (after_asks n asks (after_ask n old (rounded_ask K old.settings ask)))
-      (record {
-        change = λ app. if app.number == n then record app { asks = put_ask (rounded_ask K old.settings ask) app.asks } else app;
-        keeps = only_app n (λ app. record app { asks = put_ask (rounded_ask K old.settings ask) app.asks }) (record { number = λ a. refl; leaf = λ a. refl; user = λ a. refl });
-        active = refl;
-        next = refl;
-      })
-      (asks_change n asks (after_ask n old (rounded_ask K old.settings ask)))
+      let kept = rounded_ask K old.settings ask in
+      let mid = after_ask n old kept in
+      two_changes old mid (after_asks n asks mid) (ask_change n kept old) (asks_change n asks mid)
 
   pub ends_change : (cause : Cause) (gone : List Container) (old new : Flat K) → new.apps.active ≡ map (with_ends cause gone) old.apps.active → new.apps.next ≡ old.apps.next → AppsChange old new
   ends_change cause gone old new e n = record { change = with_ends cause gone; keeps = record { number = λ a. refl; leaf = λ a. refl; user = λ a. refl }; active = e; next = n }

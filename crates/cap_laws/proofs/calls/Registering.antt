@@ -1,14 +1,6 @@
--- What is known of a node that is not refused.
-use Rattle.cap_laws.proofs.Prelude.{◌≡◌, ℕ, ◌<◌, Bool, true, false, List, [], ◌∷◌, length, Option, Some, None, refl, sym, inl, inr, not, nat_le, bytes_eq, is_none, IsSome, is_some, ◌↔◌, list_any, cases_Bool, not-false, not-true, leb-false, amount_max, plus, is_within, IsWithin, IsVector, is_zero, within_from_test, test_from_within, nodes_max, number_end, earliest, Flat, queue_at, submit_refusal, has_children, is_running, register_node_refusal, total_of_nodes}
-
--- no test holds
-none_of : {A : Type 0} (a b c d e : Bool) (p q r s t : A) → earliest ((a, p) ∷ (b, q) ∷ (c, r) ∷ (d, s) ∷ (e, t) ∷ []) ≡ None → (b ≡ false) × (c ≡ false) × (e ≡ false)
-none_of true b c d e p q r s t h = absurd cc
-none_of false true c d e p q r s t h = absurd cc
-none_of false false true d e p q r s t h = absurd cc
-none_of false false false true e p q r s t h = absurd cc
-none_of false false false false true p q r s t h = absurd cc
-none_of false false false false false p q r s t h = (refl, refl, refl)
+-- What is known of a node that is not refused, and of an application.
+use Rattle.cap_laws.proofs.Prelude.{◌≡◌, ℕ, ◌<◌, Bool, true, false, List, [], ◌∷◌, length, Option, Some, None, refl, sym, inl, inr, not, nat_le, bytes_eq, is_none, IsSome, is_some, ◌↔◌, list_any, cases_Bool, not-false, not-true, leb-false, amount_max, plus, is_within, IsWithin, IsVector, is_zero, within_from_test, test_from_within, nodes_max, number_end, Refusal, Flat, queue_at, submit_refusal, has_children, is_running, register_node_refusal, total_of_nodes}
+use Rattle.cap_laws.proofs.choice.Reasons.{none_holds}
 
 pub record MayJoin {K : ℕ} (cluster : Flat K) (total : List ℕ) : Type 0 where
   pub within : IsWithin amount_max (plus (total_of_nodes cluster) total)
@@ -17,11 +9,17 @@ pub record MayJoin {K : ℕ} (cluster : Flat K) (total : List ℕ) : Type 0 wher
 
 pub may_join : {K : ℕ} (cluster : Flat K) (host total : List ℕ) → register_node_refusal cluster host total ≡ None → MayJoin cluster total
 may_join cluster host total h =
-    let n = none_of (list_any (λ node. bytes_eq node.host host) cluster.nodes.present) (not (is_within amount_max (plus (total_of_nodes cluster) total))) (nat_le nodes_max (length cluster.nodes.present)) (is_zero total) (nat_le number_end cluster.nodes.next_node) _ _ _ _ _ h in
+    let tests = none_holds
+    ((list_any (λ node. bytes_eq node.host host) cluster.nodes.present, Refusal.HostTaken)
+    ∷ (not (is_within amount_max (plus (total_of_nodes cluster) total)), Refusal.TotalTooLarge)
+    ∷ (nat_le nodes_max (length cluster.nodes.present), Refusal.TooManyNodes)
+    ∷ (is_zero total, Refusal.ZeroResource)
+    ∷ (nat_le number_end cluster.nodes.next_node, Refusal.NumbersSpent)
+    ∷ []) h in
     record {
-      within = within_from_test amount_max (plus (total_of_nodes cluster) total) (not-false (is_within amount_max (plus (total_of_nodes cluster) total)) n.0);
-      few = leb-false nodes_max (length cluster.nodes.present) n.1;
-      numbered = leb-false number_end cluster.nodes.next_node n.2;
+      within = within_from_test amount_max (plus (total_of_nodes cluster) total) (not-false (is_within amount_max (plus (total_of_nodes cluster) total)) tests.1.0);
+      few = leb-false nodes_max (length cluster.nodes.present) tests.1.1.0;
+      numbered = leb-false number_end cluster.nodes.next_node tests.1.1.1.1.0;
     }
 
 -- a sum that is none passes the bound somewhere
@@ -33,14 +31,15 @@ none_is_large k bound None v none long is e =
     ]
 none_is_large k bound (Some x) v none long is e = rw (test_from_within bound v (is.0 refl).within) (not-true none (sym e))
 
--- no test holds
-none_of_submit : {A : Type 0} (a b c d e : Bool) (p q r s t : A) → earliest ((a, p) ∷ (b, q) ∷ (c, r) ∷ (d, s) ∷ (e, t) ∷ []) ≡ None → (d ≡ false) × (e ≡ false)
-none_of_submit true b c d e p q r s t h = absurd cc
-none_of_submit false true c d e p q r s t h = absurd cc
-none_of_submit false false true d e p q r s t h = absurd cc
-none_of_submit false false false true e p q r s t h = absurd cc
-none_of_submit false false false false true p q r s t h = absurd cc
-none_of_submit false false false false false p q r s t h = (refl, refl)
+-- the tests of a submit, in their order
+abbrev pub submit_tests : {K : ℕ} → Flat K → List ℕ → List (Bool × Refusal)
+submit_tests cluster path =
+    (is_none (queue_at cluster path), Refusal.UnknownQueue)
+    ∷ (has_children cluster path, Refusal.NotLeaf)
+    ∷ (not (is_running cluster path), Refusal.QueueStopped)
+    ∷ (nat_le cluster.settings.application_limit (length cluster.apps.active), Refusal.TooManyApplications)
+    ∷ (nat_le number_end cluster.apps.next, Refusal.NumbersSpent)
+    ∷ []
 
 -- what is known of an application that is not refused
 pub record MayEnter {K : ℕ} (cluster : Flat K) : Type 0 where
@@ -49,8 +48,5 @@ pub record MayEnter {K : ℕ} (cluster : Flat K) : Type 0 where
 
 pub may_enter : {K : ℕ} (cluster : Flat K) (path : List ℕ) → submit_refusal cluster path ≡ None → MayEnter cluster
 may_enter cluster path h =
-    let n = none_of_submit (is_none (queue_at cluster path)) (has_children cluster path) (not (is_running cluster path)) (nat_le cluster.settings.application_limit (length cluster.apps.active)) (nat_le number_end cluster.apps.next) _ _ _ _ _ h in
-    record {
-      few = leb-false cluster.settings.application_limit (length cluster.apps.active) n.0;
-      numbered = leb-false number_end cluster.apps.next n.1;
-    }
+    let tests = none_holds (submit_tests cluster path) h in
+    record { few = leb-false cluster.settings.application_limit (length cluster.apps.active) tests.1.1.1.0; numbered = leb-false number_end cluster.apps.next tests.1.1.1.1.0 }
