@@ -1,6 +1,7 @@
 -- Reservations stay apart, on nodes that they fit, and no more than their asks count.
-use Rattle.cap_laws.proofs.Prelude.{◌≡◌, ℕ, ◌≤◌, Bool, true, false, List, [], ◌∷◌, refl, sym, ◌∙◌, ap, inl, inr, arith, ◌⊎◌, Option, Some, None, cond, ◌&&◌, ◌==◌, filter, length, option_map, nat_le, if◌then◌else◌, option_map_or, nat_tests, length-filter, holds_of, fits, Key, same_key, Ask, Flat, App, ClusterNode, Reservation, app_at, node_at, is_for, ask_at, after_ask, after_asks, rounded_ask, put_ask, reservations_left, is_changed, IsReservationBounded, reservations_for, IsIn, found, and_parts, cases_Bool, find_changed, same_key_is, kept_few, put_is_found, others_are_found, not_same_other}
+use Rattle.cap_laws.proofs.Prelude.{◌≡◌, ℕ, ◌≤◌, Bool, true, false, List, [], refl, sym, ◌∙◌, ap, inl, inr, arith, ◌⊎◌, Option, Some, None, cond, ◌&&◌, ◌==◌, filter, length, option_map, nat_le, if◌then◌else◌, option_map_or, nat_tests, length-filter, holds_of, fits, Key, same_key, Ask, Flat, App, ClusterNode, Reservation, app_at, node_at, is_for, ask_at, after_ask, after_asks, put_ask, reservations_left, is_changed, IsReservationBounded, reservations_for, IsIn, found, and_parts, cases_Bool, find_changed, same_key_is, kept_few, put_is_found, others_are_found, not_same_other}
 use Rattle.cap_laws.proofs.lists.Parts.{IsPart, part_in, part_sum, part_keep_first}
+use Rattle.cap_laws.proofs.calls.Steps.{over_asks}
 use Rattle.cap_laws.proofs.calls.Lessening.{capacity}
 use Rattle.cap_laws.proofs.bounds.Growing.{in_sum}
 
@@ -186,5 +187,4 @@ module _ {K : ℕ} where
             }
 
   pub asks_keep : (n : ℕ) (asks : List Ask) (old : Flat K) → AreBounded old → AreBounded (after_asks n asks old)
-  asks_keep n [] old b = b
-  asks_keep n (ask ∷ asks) old b = asks_keep n asks (after_ask n old (rounded_ask K old.settings ask)) (ask_keeps n old (rounded_ask K old.settings ask) b)
+  asks_keep n = over_asks AreBounded n (ask_keeps n)

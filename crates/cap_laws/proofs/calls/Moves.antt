@@ -1,8 +1,8 @@
 -- What a step does to the applications and to the nodes.
-use Rattle.cap_laws.proofs.Prelude.{◌≡◌, ℕ, Bool, true, false, List, [], ◌∷◌, ◌++◌, refl, sym, ◌∙◌, ap, inl, inr, arith, ◌⊎◌, None, Some, not, ◌==◌, length, ◌-◌, filter, map, if◌then◌else◌, map-id, not-true, nat_tests, Ask, Cause, Request, Reply, Flat, App, ClusterNode, Container, Reservation, with_app, containers_on, is_for, is_among, after_asks, after_ask, rounded_ask, put_ask, with_ends, new_app, new_node, submit_refusal, register_node_refusal, after_telling, after_wishes, after_processed_allocate, after_finish_master, after_node_gone, released_by, beat_of, ended_by, Event, Step, after_grant, after_reserve, news_of, take_one, IsIn, of_filter, in_filter, map_twice, kept_if}
+use Rattle.cap_laws.proofs.Prelude.{◌≡◌, ℕ, Bool, true, false, List, [], ◌∷◌, ◌++◌, refl, sym, ◌∙◌, ap, inl, inr, arith, ◌⊎◌, None, Some, not, ◌==◌, length, ◌-◌, filter, map, if◌then◌else◌, map-id, not-true, nat_tests, Ask, Cause, Request, Reply, Flat, App, ClusterNode, Container, Reservation, with_app, containers_on, is_for, is_among, after_asks, after_ask, put_ask, with_ends, new_app, new_node, submit_refusal, register_node_refusal, after_telling, after_wishes, after_processed_allocate, after_finish_master, after_node_gone, released_by, beat_of, ended_by, Event, Step, after_grant, after_reserve, news_of, take_one, IsIn, of_filter, in_filter, map_twice, kept_if}
 use Rattle.cap_laws.proofs.lists.Parts.{IsPart, part_itself, part_of_part, part_keep_first}
 use Rattle.cap_laws.proofs.lists.Tables.{TableMoves}
-use Rattle.cap_laws.proofs.calls.Steps.{Effect, by_step}
+use Rattle.cap_laws.proofs.calls.Steps.{Effect, by_step, over_asks}
 use Rattle.cap_laws.proofs.numbers.Balance.{among_itself}
 
 -- a change of an application that keeps what it is
@@ -62,16 +62,15 @@ module _ {K : ℕ} where
     pub reserved : IsPart old.nodes.reserved new.nodes.reserved
 
   pub asked : (n : ℕ) (asks : List Ask) (old : Flat K) → IsAsked old (after_asks n asks old)
-  asked n [] old = record { settings = refl; present = refl; next_node = refl; reserved = part_itself old.nodes.reserved }
-  asked n (ask ∷ asks) old =
-      let mid = after_ask n old (rounded_ask K old.settings ask) in
-      let r = asked n asks mid in
-      record {
-        settings = r.settings;
-        present = r.present;
-        next_node = r.next_node;
-        reserved = part_of_part old.nodes.reserved mid.nodes.reserved (after_asks n asks mid).nodes.reserved (part_keep_first (is_for n ask.key) _ old.nodes.reserved) r.reserved;
-      }
+  asked n asks old =
+      over_asks (IsAsked old) n
+      (λ c ask is. record {
+        settings = is.settings;
+        present = is.present;
+        next_node = is.next_node;
+        reserved = part_of_part old.nodes.reserved c.nodes.reserved (after_ask n c ask).nodes.reserved is.reserved (part_keep_first (is_for n ask.key) _ c.nodes.reserved);
+      })
+      asks old (record { settings = refl; present = refl; next_node = refl; reserved = part_itself old.nodes.reserved })
 
   pub ask_change : (n : ℕ) (ask : Ask) (old : Flat K) → AppsChange old (after_ask n old ask)
   ask_change n ask old = record {
@@ -82,11 +81,7 @@ module _ {K : ℕ} where
   }
 
   pub asks_change : (n : ℕ) (asks : List Ask) (old : Flat K) → AppsChange old (after_asks n asks old)
-  asks_change n [] old = no_change old old refl refl
-  asks_change n (ask ∷ asks) old =
-      let kept = rounded_ask K old.settings ask in
-      let mid = after_ask n old kept in
-      two_changes old mid (after_asks n asks mid) (ask_change n kept old) (asks_change n asks mid)
+  asks_change n asks old = over_asks (AppsChange old) n (λ c ask change. two_changes old c (after_ask n c ask) change (ask_change n ask c)) asks old (no_change old old refl refl)
 
   pub ends_change : (cause : Cause) (gone : List Container) (old new : Flat K) → new.apps.active ≡ map (with_ends cause gone) old.apps.active → new.apps.next ≡ old.apps.next → AppsChange old new
   ends_change cause gone old new e n = record { change = with_ends cause gone; keeps = record { number = λ a. refl; leaf = λ a. refl; user = λ a. refl }; active = e; next = n }

@@ -1,5 +1,5 @@
 -- What a step does, case by case: nothing, one of the effects of calls, a grant or a reservation.
-use Rattle.cap_laws.proofs.Prelude.{◌≡◌, ℕ, Bool, true, false, List, [], ◌∷◌, ◌++◌, refl, sym, ◌∙◌, ap, subst, inl, inr, Option, Some, None, IsSome, is_none, cond, not, ◌&&◌, ◌==◌, if◌then◌else◌, Ask, Cause, Container, Reservation, Flat, Request, AllocateReply, Reply, Refusal, app_at, containers_on, submit_refusal, after_submit, after_register_master, is_repeated_allocate, released_by, kept_reply, after_processed_allocate, after_finish_master, register_node_refusal, after_register_node, is_repeated_heartbeat, ended_by, after_processed_heartbeat, after_node_gone, after_set_queue_state, after_refresh, refused_or, refusal_of, granted_reply, granted_cluster, Replies, Event, Step, Run, after_grant, after_reserve, grant_proposal, reserve_proposal, sight_of, IsAdmissible, and_false}
+use Rattle.cap_laws.proofs.Prelude.{◌≡◌, ℕ, Bool, true, false, List, [], ◌∷◌, ◌++◌, refl, sym, subst, inl, inr, Option, Some, None, IsSome, is_none, cond, not, ◌&&◌, ◌==◌, if◌then◌else◌, Ask, after_ask, after_asks, rounded_ask, Cause, Container, Reservation, Flat, Request, AllocateReply, Reply, Refusal, app_at, containers_on, submit_refusal, after_submit, after_register_master, is_repeated_allocate, released_by, kept_reply, after_processed_allocate, after_finish_master, register_node_refusal, after_register_node, is_repeated_heartbeat, ended_by, after_processed_heartbeat, after_node_gone, after_set_queue_state, after_refresh, refused_or, refusal_of, granted_reply, granted_cluster, Replies, Event, Step, Run, after_grant, after_reserve, grant_proposal, reserve_proposal, sight_of, IsAdmissible, and_false}
 use Rattle.cap_model.specs.declared.reply.ReplyWith.TheVariants as Reply
 
 there_if : {A R : Type 0} (o : Option A) (x : R) (rest : Option R) → cond (is_none o) (Some x) rest ≡ None → IsSome o
@@ -53,7 +53,7 @@ module _ {K : ℕ} (old : Flat K) where
       after b = cond b old (after_processed_allocate old app id asks releases)
 
       by : (b : Bool) → is_repeated_allocate old app id ≡ b → Effect (Request.Allocate app id asks releases) (Reply.Allocate (kept_reply (after b) app)) (after b)
-      by true r = Effect.nothing (λ by n. (ap (λ b. cond (app == n && not b) (Some (kept_reply old app)) None) r ∙ ap (λ b. cond b (Some (kept_reply old app)) None) (and_false (app == n)), ap (λ b. cond b None (Some (Cause.Released, released_by old app releases))) r))
+      by true r = Effect.nothing (λ by n. rw (r, and_false (app == n)) (refl, refl))
       by false r = Effect.allocate app id asks releases (there_if (app_at old app) Refusal.UnknownApplication _ e) r
   granted (Request.FinishMaster app) e = Effect.finish_master app
   granted (Request.RegisterNode host rack total) e = Effect.register_node host rack total e
@@ -61,7 +61,7 @@ module _ {K : ℕ} (old : Flat K) where
     where
       by : (b : Bool) → is_repeated_heartbeat old node id ≡ b →
           Effect (Request.Heartbeat node id ended) (granted_reply old (Request.Heartbeat node id ended)) (cond b old (after_processed_heartbeat old node id ended))
-      by true r = Effect.nothing (λ by n. (refl, ap (λ b. cond b None (Some (Cause.EndedOnNode, ended_by old node ended))) r))
+      by true r = Effect.nothing (λ by n. rw r (refl, refl))
       by false r = Effect.heartbeat node id ended r
   granted (Request.NodeGone node) e = Effect.node_gone node
   granted (Request.QueueInfo path) e = Effect.nothing (λ by n. (refl, refl))
@@ -99,3 +99,8 @@ module _ {K : ℕ} (P : Flat K → Type 0) (stays : (old new : Flat K) (event : 
   at_each (event ∷ first) rest old new h (next, step, run) =
       let r = at_each first rest next new (stays old next event h step) run in
       (r.0, (next, step, r.1), r.2, r.3, r.4)
+
+-- what each ask keeps holds after the asks of an allocate
+pub over_asks : {K : ℕ} (P : Flat K → Type 0) (n : ℕ) → ((c : Flat K) (ask : Ask) → P c → P (after_ask n c ask)) → (asks : List Ask) (old : Flat K) → P old → P (after_asks n asks old)
+over_asks P n keeps [] old h = h
+over_asks {K} P n keeps (ask ∷ asks) old h = let kept = rounded_ask K old.settings ask in over_asks P n keeps asks (after_ask n old kept) (keeps old kept h)

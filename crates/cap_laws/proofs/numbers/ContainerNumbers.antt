@@ -1,6 +1,6 @@
 -- Container numbers are never used twice.
-use Rattle.cap_laws.proofs.Prelude.{◌≡◌, ℕ, Bool, true, List, [], ◌∷◌, ◌++◌, refl, sym, ◌∙◌, ap, subst, arith, not, filter, Ask, Request, Reply, Flat, Container, containers_on, containers_of, after_asks, after_ask, rounded_ask, is_among, after_processed_allocate, released_by, ended_by, Event, Step, Run, granted_by, ever_granted, IsRising, container_numbers, HasDistinctNumbers, NumbersStayDistinct, GrantedOnce, filter_whole, rising_kept, rising_more}
-use Rattle.cap_laws.proofs.calls.Steps.{Effect, by_step}
+use Rattle.cap_laws.proofs.Prelude.{◌≡◌, ℕ, Bool, true, List, [], ◌∷◌, ◌++◌, refl, sym, ◌∙◌, ap, subst, arith, not, filter, Ask, Request, Reply, Flat, Container, containers_on, containers_of, after_asks, is_among, after_processed_allocate, released_by, ended_by, Event, Step, Run, granted_by, ever_granted, IsRising, container_numbers, HasDistinctNumbers, NumbersStayDistinct, GrantedOnce, filter_whole, rising_kept, rising_more}
+use Rattle.cap_laws.proofs.calls.Steps.{Effect, by_step, over_asks}
 
 module _ {K : ℕ} where
   -- the new cluster has the containers of the old one that pass a test, and the same next number
@@ -18,9 +18,7 @@ module _ {K : ℕ} where
   thinned_same old new s = record { test = λ c. true; live = s.live ∙ sym (filter_whole (λ c. true) old.nodes.live (λ c m. refl)); next = s.next }
 
   pub asks_keep : (n : ℕ) (asks : List Ask) (cluster : Flat K) → HasSameContainers cluster (after_asks n asks cluster)
-  asks_keep n [] cluster = record { live = refl; next = refl }
-  asks_keep n (ask ∷ asks) cluster =
-      let r = asks_keep n asks (after_ask n cluster (rounded_ask K cluster.settings ask)) in record { live = r.live; next = r.next }
+  asks_keep n asks cluster = over_asks (HasSameContainers cluster) n (λ c ask same. record { live = same.live; next = same.next }) asks cluster (record { live = refl; next = refl })
 
   pub processed_allocate_thins : (old : Flat K) (n id : ℕ) (asks : List Ask) (releases : List ℕ) → IsThinned old (after_processed_allocate old n id asks releases)
   processed_allocate_thins old n id asks releases =

@@ -6,7 +6,7 @@ use Rattle.cap_laws.proofs.calls.Moves.{step_moves}
 use Rattle.cap_laws.proofs.numbers.ContainerNumbers.{asks_keep}
 use Rattle.cap_laws.proofs.numbers.Balance.{determined, none_ended, ended_by_thinning}
 use Rattle.cap_laws.proofs.numbers.AppNumbers.{never_back}
-use Rattle.cap_laws.proofs.telling.Telling.{new_of, ends, ends_told, nothing_either}
+use Rattle.cap_laws.proofs.telling.News.{new_of, ends, ends_told, nothing_either}
 use Rattle.cap_laws.proofs.telling.ToldRuns.{quiet, not_live, none_ends}
 use Rattle.cap_laws.proofs.bounds.BoundedRuns.{step_stays_bounded}
 use Rattle.cap_laws.proofs.ending.NamedEnds.{count_ended, count_lost, count_ends, count_of}

@@ -1,7 +1,8 @@
 -- A reply in full is what it was, and its grants and ends have room.
 use Rattle.cap_laws.proofs.Prelude.{◌≡◌, ℕ, ◌≤◌, ◌+◌, Bool, true, false, List, [], ◌∷◌, ◌++◌, refl, sym, ◌∙◌, ap, subst, inl, inr, arith, Option, Some, None, IsSome, cond, not, ◌-◌, min, length, find, map, filter, ◌==◌, unwrap_or, option_map, option_and_then, if◌then◌else◌, option_map_or, length-take, length-append, length-map, length-filter, count_by-le-length, nat_tests, cons_option, Ask, AllocateReply, Reply, End, Cause, Request, Refusal, news_max, Flat, App, Container, app_at, containers_of, nothing_told, after_telling, after_processed_allocate, after_wishes, kept_reply, is_repeated_allocate, released_by, Replies, refused_or, refusal_of, granted_reply, NewsRoom, news_most, HasRoomFor, IsNoAllocate, named_among, holds_of, is_repeated, ends_of, find_changed, kept_if}
 use Rattle.cap_model.specs.declared.reply.ReplyWith.TheVariants as Reply
-use Rattle.cap_laws.proofs.telling.Telling.{its_number, its_test, News, untold, grants, ends, allocate_tells, grants_are, ends_are}
+use Rattle.cap_laws.proofs.telling.News.{News, untold, grants, ends, grants_are, ends_are}
+use Rattle.cap_laws.proofs.telling.Telling.{its_number, its_test, allocate_tells}
 
 itself : (n : ℕ) → (n == n) ≡ true
 itself n = grind (arith, nat_tests)

@@ -7,7 +7,8 @@ use Rattle.cap_laws.proofs.numbers.AppNumbers.{never_back, kept_change}
 use Rattle.cap_laws.proofs.numbers.Balance.{determined}
 use Rattle.cap_laws.proofs.choice.Proposers.{seen_is}
 use Rattle.cap_laws.proofs.bounds.Formed.{step_formed}
-use Rattle.cap_laws.proofs.telling.Telling.{News, IsNews, AreTold, untold, told_of, new_of, told_in_order, grants, ends, grants_are, ends_are, grants_told, ends_told}
+use Rattle.cap_laws.proofs.telling.News.{News, IsNews, AreTold, untold, told_of, new_of, grants, ends, grants_are, ends_are, grants_told, ends_told}
+use Rattle.cap_laws.proofs.telling.Telling.{told_in_order}
 
 -- what some numbers name among containers are some of them
 
