@@ -121,11 +121,13 @@ module _ {K : ℕ} where
       (each_of (λ app. IsLeaf old app.leaf) old.apps.active leaves) app g))
 
   -- places
+
+  there_too : (cluster : Flat K) {a b app node : ℕ} → a ≡ app → b ≡ node → AreThere cluster a b → AreThere cluster app node
+  there_too cluster {a} {b} {app} {node} e f there = subst (λ n. AreThere cluster n node) e (subst (λ n. AreThere cluster a n) f there)
+
   pub places_of : (cluster : Flat K) → IsWellFormed cluster → HasPlaces cluster
-  places_of cluster w app node (inl (c, m, a, e)) =
-      subst (λ n. AreThere cluster n node) a (subst (λ n. AreThere cluster c.app n) e (each_of (λ (x : Container). AreThere cluster x.app x.node) cluster.nodes.live w.live c m))
-  places_of cluster w app node (inr (r, m, a, e)) =
-      subst (λ n. AreThere cluster n node) a (subst (λ n. AreThere cluster r.app n) e (each_of (λ (x : Reservation). AreThere cluster x.app x.node) cluster.nodes.reserved w.reserved r m))
+  places_of cluster w app node (inl (c, m, a, e)) = there_too cluster a e (each_of (λ (x : Container). AreThere cluster x.app x.node) cluster.nodes.live w.live c m)
+  places_of cluster w app node (inr (r, m, a, e)) = there_too cluster a e (each_of (λ (x : Reservation). AreThere cluster x.app x.node) cluster.nodes.reserved w.reserved r m)
 
   live_placed : (cluster : Flat K) → HasPlaces cluster → All (λ c. AreThere cluster c.app c.node) cluster.nodes.live
   live_placed cluster h = of_each (λ (c : Container). AreThere cluster c.app c.node) cluster.nodes.live (λ c m. h c.app c.node (inl (c, m, refl, refl)))
@@ -158,10 +160,7 @@ module _ {K : ℕ} where
       before : IsSite (after_grant old c) app node → AreThere old app node
       before (inl (x, m, a, e)) = elim (in_either x old.nodes.live (c ∷ []) m) [
         | inl g ↦ h app node (inl (x, g, a, e))
-        | inr (inl g) ↦
-            let app_is : c.app ≡ app = ap (λ (y : Container). y.app) g ∙ a in
-            let node_is : c.node ≡ node = ap (λ (y : Container). y.node) g ∙ e in
-            subst (λ n. AreThere old n node) app_is (subst (λ n. AreThere old c.app n) node_is at)
+        | inr (inl g) ↦ there_too old (ap (λ (y : Container). y.app) g ∙ a) (ap (λ (y : Container). y.node) g ∙ e) at
         | inr (inr g) ↦ absurd g
       ]
       before (inr (r, m, a, e)) = h app node (inr (r, (of_filter (λ (x : Reservation). not (x.node == c.node)) old.nodes.reserved r m).1, a, e))
@@ -170,10 +169,7 @@ module _ {K : ℕ} where
   reserve_places old r h at app node (inl s) = h app node (inl s)
   reserve_places old r h at app node (inr (x, m, a, e)) = elim (in_either x old.nodes.reserved (r ∷ []) m) [
     | inl g ↦ h app node (inr (x, g, a, e))
-    | inr (inl g) ↦
-        let app_is : r.app ≡ app = ap (λ (y : Reservation). y.app) g ∙ a in
-        let node_is : r.node ≡ node = ap (λ (y : Reservation). y.node) g ∙ e in
-        subst (λ n. AreThere old n node) app_is (subst (λ n. AreThere old r.app n) node_is at)
+    | inr (inl g) ↦ there_too old (ap (λ (y : Reservation). y.app) g ∙ a) (ap (λ (y : Reservation). y.node) g ∙ e) at
     | inr (inr g) ↦ absurd g
   ]
 

@@ -1,6 +1,7 @@
 -- A container that is still wanted: fewer reservations than the ask counts. And what a grant or a reservation does to reservations.
-use Rattle.cap_laws.proofs.Prelude.{◌≡◌, ℕ, ◌+◌, ◌≤◌, ◌<◌, Bool, true, false, List, [], ◌∷◌, refl, sym, ◌∙◌, ap, inl, inr, arith, ◌⊎◌, Option, Some, None, cond, ◌&&◌, ◌==◌, filter, find, map, length, option_and_then, nat_le, list_any, sum_by, nat_tests, sum_by-cons, sum_by-le-sum_by, length-filter, holds_of, same_key, Ask, Flat, App, ClusterNode, Reservation, node_at, is_for, ask_at, reservation_on, Sight, NodeSight, AppSight, sight_of, node_sight, app_sight, seen_app, still_wanted, NodeProposal, is_wanted, IsRising, AreApart, reservations_for, AreThere, ReasonsAreInOrder, WantedIsSeen, IsIn, found, each_of, or_left, or_right, value_of, sum_by_map, sum_of_zeros, one_where, sum_of_two, sum_by_same, cases_Bool, same_key_is}
+use Rattle.cap_laws.proofs.Prelude.{◌≡◌, ℕ, ◌+◌, ◌≤◌, Bool, true, false, List, [], ◌∷◌, refl, sym, ◌∙◌, ap, inl, inr, arith, ◌⊎◌, Option, Some, None, cond, ◌&&◌, ◌==◌, filter, find, map, length, option_and_then, nat_le, list_any, sum_by, nat_tests, sum_by-cons, sum_by-le-sum_by, length-filter, holds_of, same_key, Ask, Flat, App, ClusterNode, Reservation, node_at, is_for, ask_at, reservation_on, Sight, NodeSight, AppSight, sight_of, node_sight, app_sight, seen_app, still_wanted, NodeProposal, is_wanted, IsRising, AreApart, reservations_for, AreThere, ReasonsAreInOrder, WantedIsSeen, IsIn, found, each_of, or_left, or_right, value_of, sum_by_map, sum_of_zeros, one_where, sum_of_two, sum_by_same, cases_Bool, same_key_is}
 use Rattle.std.specs.List.{count_by}
+use Rattle.cap_laws.proofs.lists.Tables.{count_numbered}
 use Rattle.cap_laws.proofs.bounds.Growing.{in_sum}
 use Rattle.cap_laws.proofs.choice.Proposers.{IsSeen}
 
@@ -73,24 +74,8 @@ module _ {K : ℕ} (old : Flat K) (apart : AreApart old.nodes.reserved) (placed 
 
 -- what is seen as wanted is what is wanted
 
--- of nodes in order at most one has a number
-one_node : (n low : ℕ) (nodes : List ClusterNode) (high : ℕ) → IsRising low (map (λ node. node.number) nodes) high → (count_by (λ (x : ClusterNode). n == x.number) nodes ≤ 1) × (n < low → count_by (λ (x : ClusterNode). n == x.number) nodes ≡ 0)
-one_node n low [] high r = (omega arith, λ h. refl)
-one_node n low (x ∷ nodes) high r = by (n == x.number) refl (one_node n (x.number + 1) nodes high r.1)
-  where
-    first : count_by (λ (y : ClusterNode). n == y.number) (x ∷ nodes) ≡ one_where (n == x.number) + count_by (λ (y : ClusterNode). n == y.number) nodes
-    first = sum_by-cons (λ (y : ClusterNode). one_where (n == y.number)) x nodes
-
-    by : (b : Bool) → n == x.number ≡ b → (count_by (λ (y : ClusterNode). n == y.number) nodes ≤ 1) × (n < x.number + 1 → count_by (λ (y : ClusterNode). n == y.number) nodes ≡ 0) →
-        (count_by (λ (y : ClusterNode). n == y.number) (x ∷ nodes) ≤ 1) × (n < low → count_by (λ (y : ClusterNode). n == y.number) (x ∷ nodes) ≡ 0)
-    by true e h =
-        let same : n ≡ x.number = grind (arith, nat_tests, e) in
-        let head : one_where (n == x.number) ≡ 1 = ap one_where e in
-        let none = h.1 (omega (arith, same)) in
-        (omega (arith, first, head, none), λ g. absurd (omega (arith, g, same, r.0)))
-    by false e h =
-        let head : one_where (n == x.number) ≡ 0 = ap one_where e in
-        (omega (arith, first, head, h.0), λ g. omega (arith, first, head, h.1 (omega (arith, g, r.0))))
+same_either_way : (n m : ℕ) → (n == m) ≡ (m == n)
+same_either_way n m = grind (arith, nat_tests)
 
 and_less : (a b : Bool) → (one_where (a && b) ≤ one_where a) × (one_where (a && b) ≤ one_where b)
 and_less true true = (omega arith, omega arith)
@@ -125,7 +110,8 @@ nodes_on t nodes high (r ∷ rs) rise a =
         by (inl e) =
             let one : one_where (t r) ≡ 1 = ap one_where e in
             let less = sum_by-le-sum_by (λ (x : ClusterNode). one_where (r.node == x.number && t r)) (λ x. one_where (r.node == x.number)) nodes (λ x. (and_less (r.node == x.number) (t r)).0) in
-            omega (arith, one, less, (one_node r.node 1 nodes high rise).0)
+            let turned : count_by (λ (x : ClusterNode). r.node == x.number) nodes ≡ count_by (λ x. x.number == r.node) nodes = λ i. count_by (λ (x : ClusterNode). same_either_way r.node x.number i) nodes in
+            omega (arith, one, less, turned, (count_numbered (λ (x : ClusterNode). x.number) r.node 1 nodes high rise).0)
         by (inr e) = omega (arith, none_counted t r nodes e)
 
 pub wanted_is_seen : WantedIsSeen

@@ -1,11 +1,28 @@
 -- Tables of numbered items: each item is changed and stays what it is, one goes, or one of the next number comes.
-use Rattle.cap_laws.proofs.Prelude.{◌≡◌, ℕ, ◌+◌, ◌≤◌, ◌<◌, false, List, [], ◌∷◌, ◌++◌, ◌∙◌, ap, subst, inl, inr, arith, Option, Some, None, IsSome, cond, not, ◌==◌, filter, find, map, option_map, option_or, cases_Bool, cases_lt, nat_tests, find-append, IsRising, IsIn, of_filter, of_map, in_either, rising_kept, rising_more, same_numbers, none_from_high, find_changed, find_others, find_gone, find_with_more, not_none}
+use Rattle.cap_laws.proofs.Prelude.{◌≡◌, ℕ, ◌+◌, ◌≤◌, ◌<◌, Bool, true, false, refl, count_by, count_cons, one_where, List, [], ◌∷◌, ◌++◌, ◌∙◌, ap, subst, inl, inr, arith, Option, Some, None, IsSome, cond, not, ◌==◌, filter, find, map, option_map, option_or, cases_Bool, cases_lt, nat_tests, find-append, IsRising, IsIn, of_filter, of_map, in_either, rising_kept, rising_more, same_numbers, none_from_high, find_changed, find_others, find_gone, find_with_more, not_none}
 
 -- A table with its next number, and the same after it moved: what a change keeps, what is known of a number that goes, and of an item that comes.
 pub data TableMoves {A : Type 0} (number : A → ℕ) (Keeps : (A → A) → Type 0) (Goes : ℕ → Type 0) (Comes : A → Type 0) (xs : List A) (next : ℕ) (ys : List A) (after : ℕ) : Type 0 where
   change : (f : A → A) → ((a : A) → number (f a) ≡ number a) → Keeps f → ys ≡ map f xs → after ≡ next → TableMoves number Keeps Goes Comes xs next ys after
   goes : (n : ℕ) → Goes n → ys ≡ filter (λ a. not (number a == n)) xs → after ≡ next → TableMoves number Keeps Goes Comes xs next ys after
   comes : (a : A) → number a ≡ next → Comes a → ys ≡ xs ++ a ∷ [] → after ≡ next + 1 → TableMoves number Keeps Goes Comes xs next ys after
+
+-- of items in order no number stands twice
+pub count_numbered : {A : Type 0} (number : A → ℕ) (n low : ℕ) (xs : List A) (high : ℕ) → IsRising low (map number xs) high →
+    (count_by (λ x. number x == n) xs ≤ 1) × (n < low → count_by (λ x. number x == n) xs ≡ 0)
+count_numbered number n low [] high r = (omega arith, λ h. refl)
+count_numbered number n low (x ∷ xs) high r = by (number x == n) refl (count_numbered number n (number x + 1) xs high r.1)
+  where
+    by : (b : Bool) → number x == n ≡ b → (count_by (λ y. number y == n) xs ≤ 1) × (n < number x + 1 → count_by (λ y. number y == n) xs ≡ 0) →
+        (count_by (λ y. number y == n) (x ∷ xs) ≤ 1) × (n < low → count_by (λ y. number y == n) (x ∷ xs) ≡ 0)
+    by true e h =
+        let same : number x ≡ n = grind (arith, nat_tests, e) in
+        let head : one_where (number x == n) ≡ 1 = ap one_where e in
+        let none : count_by (λ y. number y == n) xs ≡ 0 = h.1 (omega (arith, same)) in
+        (omega (arith, count_cons (λ y. number y == n) x xs, head, none), λ g. absurd (omega (arith, g, same, r.0)))
+    by false e h =
+        let head : one_where (number x == n) ≡ 0 = ap one_where e in
+        (omega (arith, count_cons (λ y. number y == n) x xs, head, h.0), λ g. omega (arith, count_cons (λ y. number y == n) x xs, head, h.1 (omega (arith, g, r.0))))
 
 -- who is there has a number that was used
 pub used : {A : Type 0} (number : A → ℕ) (xs : List A) (next n : ℕ) → IsRising 1 (map number xs) next → IsSome (find (λ a. number a == n) xs) → n < next

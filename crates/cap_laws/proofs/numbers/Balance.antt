@@ -1,6 +1,7 @@
 -- What lives and what has ended is what lived and what was granted.
-use Rattle.cap_laws.proofs.Prelude.{◌≡◌, ℕ, ◌+◌, ◌≤◌, ◌<◌, Bool, true, false, List, [], ◌∷◌, ◌++◌, refl, sym, ◌∙◌, ap, subst, inl, inr, arith, Option, Some, None, cond, not, ◌||◌, ◌==◌, filter, count_by, nat_tests, append_assoc, append-nil, filter-append, list_any-append, Request, Refusal, Flat, Container, is_among, refused_or, refusal_of, granted_reply, granted_cluster, after_request, Event, Step, Run, after_event, after_grant, after_reserve, granted_by, ever_granted, ended_between, ever_ended, is_no_memory, IsRising, container_numbers, HasDistinctNumbers, StepIsDetermined, RunLeadsToOneState, ContainersBalance, EndedOnce, LiveIsWhatWasNotEnded, IsIn, in_left, one_where, count_append, count_cons, rising_ends, rising_from_low, filter_none, filter_same, filter_twice, filter_whole, twice_not}
+use Rattle.cap_laws.proofs.Prelude.{◌≡◌, ℕ, ◌+◌, ◌≤◌, ◌<◌, Bool, true, false, List, [], ◌∷◌, ◌++◌, refl, sym, ◌∙◌, ap, subst, inl, inr, arith, Option, Some, None, cond, not, ◌||◌, ◌==◌, filter, count_by, nat_tests, append_assoc, append-nil, filter-append, list_any-append, Request, Refusal, Flat, Container, is_among, refused_or, refusal_of, granted_reply, granted_cluster, after_request, Event, Step, Run, after_event, after_grant, after_reserve, granted_by, ever_granted, ended_between, ever_ended, is_no_memory, IsRising, container_numbers, HasDistinctNumbers, StepIsDetermined, RunLeadsToOneState, ContainersBalance, EndedOnce, LiveIsWhatWasNotEnded, IsIn, in_left, count_append, count_cons, rising_ends, rising_from_low, filter_none, filter_same, filter_twice, filter_whole, twice_not}
 use Rattle.cap_model.specs.declared.reply.ReplyWith.TheVariants as Reply
+use Rattle.cap_laws.proofs.lists.Tables.{count_numbered}
 use Rattle.cap_laws.proofs.calls.Steps.{by_step}
 use Rattle.cap_laws.proofs.numbers.ContainerNumbers.{IsThinned, call_thins, numbers_stay_distinct, granted_once}
 
@@ -81,22 +82,6 @@ count_parts f t (x ∷ xs) = by (t x) (count_parts f t xs)
 abbrev is_numbered : ℕ → Container → Bool
 is_numbered n c = c.number == n
 
--- of containers in order no number stands twice
-count_rising : (n low : ℕ) (cs : List Container) (high : ℕ) → IsRising low (container_numbers cs) high → (count_by (is_numbered n) cs ≤ 1) × (n < low → count_by (is_numbered n) cs ≡ 0)
-count_rising n low [] high r = (omega arith, λ h. refl)
-count_rising n low (c ∷ cs) high r = by (c.number == n) refl (count_rising n (c.number + 1) cs high r.1)
-  where
-    by : (b : Bool) → c.number == n ≡ b → (count_by (is_numbered n) cs ≤ 1) × (n < c.number + 1 → count_by (is_numbered n) cs ≡ 0) →
-        (count_by (is_numbered n) (c ∷ cs) ≤ 1) × (n < low → count_by (is_numbered n) (c ∷ cs) ≡ 0)
-    by true e h =
-        let same : c.number ≡ n = grind (arith, nat_tests, e) in
-        let head : one_where (c.number == n) ≡ 1 = ap one_where e in
-        let none : count_by (is_numbered n) cs ≡ 0 = h.1 (omega (arith, same)) in
-        (omega (arith, count_cons (is_numbered n) c cs, head, none), λ g. absurd (omega (arith, g, same, r.0)))
-    by false e h =
-        let head : one_where (c.number == n) ≡ 0 = ap one_where e in
-        (omega (arith, count_cons (is_numbered n) c cs, head, h.0), λ g. omega (arith, count_cons (is_numbered n) c cs, head, h.1 (omega (arith, g, r.0))))
-
 -- two lists of numbers in order, the second from where the first ends
 rising_append : (low mid : ℕ) (cs ds : List Container) (high : ℕ) → IsRising low (container_numbers cs) mid → IsRising mid (container_numbers ds) high → IsRising low (container_numbers (cs ++ ds)) high
 rising_append low mid [] [] high r s = omega (arith, r, s)
@@ -165,7 +150,7 @@ ended_once K events old new r run n =
     let balance = run_balance events old new r run (is_numbered n) in
     let all : IsRising 1 (container_numbers (old.nodes.live ++ ever_granted events)) new.nodes.next_container =
     rising_append 1 old.nodes.next_container old.nodes.live (ever_granted events) new.nodes.next_container r (granted_once K events old new run) in
-    let few = (count_rising n 1 (old.nodes.live ++ ever_granted events) new.nodes.next_container all).0 in
+    let few = (count_numbered (λ (c : Container). c.number) n 1 (old.nodes.live ++ ever_granted events) new.nodes.next_container all).0 in
     omega (arith, balance, few, count_append (is_numbered n) old.nodes.live (ever_granted events))
 
 -- the closing live containers themselves

@@ -80,7 +80,8 @@ record IsKept {N : Type 0} (k : News N) {K : ℕ} (Good : Flat K → Type 0) : T
   stays : (old mid : Flat K) (event : Event K) → Good old → Step old event mid → Good mid
   none_ends : (c : Flat K) (n : ℕ) → Good c → app_at c n ≡ None → (cause : Cause) (gone : List Container) → ((x : Container) → IsIn x gone → IsIn x c.nodes.live) → k.ends cause n gone ≡ []
 
-module _ {N : Type 0} {k : News N} {K : ℕ} {told new : Flat K → ℕ → Event K → List N} {ever_told ever_new : Flat K → ℕ → List (Event K) → List N} {Good : Flat K → Type 0} (is : IsNews k) (are : AreTold k told new ever_told ever_new) (good : IsKept k Good) (n : ℕ) where
+module _ {N : Type 0} {k : News N} {K : ℕ} {told new : Flat K → ℕ → Event K → List N} {ever_told ever_new : Flat K → ℕ → List (Event K) → List N} {Good : Flat K → Type 0}
+    (is : IsNews k) (are : AreTold k told new ever_told ever_new) (good : IsKept k Good) (n : ℕ) where
   nothing : (old : Flat K) (event : Event K) → IsQuietAt k old n event → (told old n event ≡ []) × (new old n event ≡ [])
   nothing old event q = (are.told_is old n event ∙ q.0, are.new_is old n event ∙ q.1)
 
