@@ -1,4 +1,4 @@
--- What calls and steps change of applications, containers and nodes.
+-- The cases of a step, and what calls and steps change of applications, containers and nodes.
 pub mod Steps
 pub mod Lessening
 pub mod Moves

@@ -64,10 +64,9 @@ module _ {K : ℕ} (old : Flat K) where
       by true r = Effect.nothing (λ by n. rw r (refl, refl))
       by false r = Effect.heartbeat node id ended r
   granted (Request.NodeGone node) e = Effect.node_gone node
-  granted (Request.QueueInfo path) e = Effect.nothing (λ by n. (refl, refl))
   granted (Request.SetQueueState path running) e = Effect.set_queue_state path running
-  granted Request.ClusterInfo e = Effect.nothing (λ by n. (refl, refl))
   granted (Request.Refresh text) e = Effect.refresh text
+  granted _ e = Effect.nothing (λ by n. (refl, refl))
 
   pub effect : (request : Request K) (reply : Reply K) (new : Flat K) → Replies old request reply new → Effect request reply new
   effect request reply new (inl r) = rw (r.0, r.1) (by (refusal_of old request) refl)
