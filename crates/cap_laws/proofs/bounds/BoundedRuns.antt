@@ -1,23 +1,25 @@
 -- Every state of a run from a bounded cluster is bounded.
-use Rattle.cap_laws.proofs.Prelude.{◌≡◌, ℕ, List, [], inl, inr, arith, ◌&&◌, Option, Some, None, bytes_eq, true, cases_lt, Settings, fits, times, Flat, App, Container, Reservation, opened_cluster, is_under, use_of, queue_use, Event, Step, FitsMaximum, IsLeaf, AreThere, IsQueueBounded, IsNodeBounded, IsReservationBounded, IsWellFormed, IsBounded, IsListing, StepStaysBounded, RunsStayBounded, OpenedIsBounded, OpenedMeetsLimits, of_each, use_amount, use_past, amounts_fit, listings_stand_below}
+use Rattle.cap_laws.proofs.Prelude.{◌≡◌, ℕ, List, [], inl, inr, arith, ◌&&◌, Option, Some, None, bytes_eq, true, cases_lt, Settings, fits, times, App, Container, Reservation, opened_cluster, is_under, use_of, queue_use, FitsMaximum, IsLeaf, AreThere, IsQueueBounded, IsNodeBounded, IsReservationBounded, IsWellFormed, IsBounded, IsListing, StepStaysBounded, RunsStayBounded, OpenedIsBounded, OpenedMeetsLimits, of_each, use_amount, use_past, amounts_fit, listings_stand_below}
 use Rattle.cap_laws.proofs.calls.Steps.{at_each}
 use Rattle.cap_laws.proofs.numbers.ContainerNumbers.{numbers_stay_distinct}
 use Rattle.cap_laws.proofs.bounds.Formed.{step_formed}
-use Rattle.cap_laws.proofs.bounds.StepBounds.{step_bounds_nodes, step_apart, step_bounds_reservations}
+use Rattle.cap_laws.proofs.bounds.StepBounds.{nodes_stay_bounded, reservations_stay_apart, reservations_stay_bounded}
 use Rattle.cap_laws.proofs.uses.TreeSums.{trees_add_up}
 
-module _ {K : ℕ} where
-  step_bounded : (old new : Flat K) (event : Event K) → IsBounded old → Step old event new → IsBounded new
-  step_bounded old new event b s =
-      let w = step_formed old new event b.formed s in
-      record {
-        formed = w;
-        parents = trees_add_up K new w;
-        nodes = step_bounds_nodes old new event b s;
-        reservations = step_bounds_reservations old new event b s;
-        apart = step_apart old new event b s;
-        numbers = numbers_stay_distinct K old new event b.numbers s;
-      }
+pub step_stays_bounded : StepStaysBounded
+step_stays_bounded K old new event b s =
+    let w = step_formed old new event b.formed s in
+    record {
+      formed = w;
+      parents = trees_add_up K new w;
+      nodes = nodes_stay_bounded K old new event b s;
+      reservations = reservations_stay_bounded K old new event b s;
+      apart = reservations_stay_apart K old new event b s;
+      numbers = numbers_stay_distinct K old new event b.numbers s;
+    }
+
+pub runs_are_bounded : RunsStayBounded
+runs_are_bounded K first rest old new b run = at_each IsBounded (step_stays_bounded K) first rest old new b run
 
 module _ (K : ℕ) where
   -- in an empty cluster nothing is used
@@ -63,12 +65,6 @@ opened_meets_limits K settings =
       maximum = empty_in_maximum K settings q.path q.maximum;
       users = λ user. nothing_used K settings (λ leaf u. bytes_eq q.path leaf && bytes_eq user u) (times q.factor q.guaranteed);
     })
-
-pub step_stays_bounded : StepStaysBounded
-step_stays_bounded K old new event b s = step_bounded old new event b s
-
-pub runs_are_bounded : RunsStayBounded
-runs_are_bounded K first rest old new b run = at_each IsBounded step_bounded first rest old new b run
 
 pub opened_is_bounded : OpenedIsBounded
 opened_is_bounded K settings t = empty_bounded K settings t

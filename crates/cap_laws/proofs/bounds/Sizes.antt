@@ -1,15 +1,11 @@
 -- A step keeps a cluster within its sizes.
-use Rattle.cap_laws.proofs.Prelude.{◌≡◌, ℕ, ◌≤◌, ◌<◌, true, List, [], ◌∷◌, length, ap, inl, inr, arith, not, ◌==◌, filter, sum_by, cases_lt, length-append, length-map, sum_by_push, amount, amount_max, IsWithin, amount-plus, number_end, nodes_max, Request, Reply, part, Flat, ClusterNode, total_of_nodes, Event, Step, IsWithinSizes, SizesStay, RunsStayWithinSizes, OpenedIsWithinSizes, sum_by_map, amount_of, amount_past, length-kept}
+use Rattle.cap_laws.proofs.Prelude.{◌≡◌, ℕ, ◌≤◌, ◌<◌, true, List, [], ◌∷◌, length, ap, inl, inr, arith, not, ◌==◌, filter, sum_by, cases_lt, length-append, length-map, sum_by_push, amount, amount_max, IsWithin, amount-plus, number_end, nodes_max, Request, Reply, part, Flat, ClusterNode, total_of_nodes, IsWithinSizes, SizesStay, RunsStayWithinSizes, OpenedIsWithinSizes, sum_by_map, amount_of, amount_past, length-kept}
 use Rattle.cap_laws.proofs.lists.Parts.{part_filter, part_sum}
 use Rattle.cap_laws.proofs.lists.Tables.{TableMoves}
 use Rattle.cap_laws.proofs.calls.Registering.{may_join, may_enter}
 use Rattle.cap_laws.proofs.calls.Steps.{Effect, by_step, at_each}
 use Rattle.cap_laws.proofs.numbers.ContainerNumbers.{call_thins}
 use Rattle.cap_laws.proofs.calls.Moves.{AppsMove, NodesMove, call_moves, call_nodes}
-
--- what some nodes have together
-abbrev together : ℕ → List ClusterNode → ℕ → ℕ
-together K nodes k = part (λ (x : ClusterNode). true) (λ x. x.total) nodes k
 
 -- nodes within the sizes
 pub record AreNodesWithin (K : ℕ) (nodes : List ClusterNode) (next : ℕ) : Type 0 where
@@ -18,11 +14,8 @@ pub record AreNodesWithin (K : ℕ) (nodes : List ClusterNode) (next : ℕ) : Ty
   pub numbers : next ≤ number_end
 
 module _ {K : ℕ} where
-  totals_amount : (cluster : Flat K) (k : ℕ) → k < K → amount (total_of_nodes cluster) k ≡ sum_by (λ (x : ClusterNode). amount x.total k) cluster.nodes.present
+  pub totals_amount : (cluster : Flat K) (k : ℕ) → k < K → amount (total_of_nodes cluster) k ≡ sum_by (λ (x : ClusterNode). amount x.total k) cluster.nodes.present
   totals_amount cluster k h = amount_of K (part (λ (x : ClusterNode). true) (λ x. x.total) cluster.nodes.present) k h
-
-  nodes_of : (cluster : Flat K) → IsWithinSizes cluster → AreNodesWithin K cluster.nodes.present cluster.nodes.next_node
-  nodes_of cluster s = record { totals = λ k h. let a = totals_amount cluster k h in let b = s.totals k in omega (arith, a, b); few = s.nodes; numbers = s.node_numbers }
 
   of_nodes : (cluster : Flat K) → AreNodesWithin K cluster.nodes.present cluster.nodes.next_node → IsWithin amount_max (total_of_nodes cluster)
   of_nodes cluster a k = elim (cases_lt k K) [
@@ -30,22 +23,22 @@ module _ {K : ℕ} where
     | inr p ↦ omega (arith, amount_past K (part (λ (x : ClusterNode). true) (λ x. x.total) cluster.nodes.present) k p)
   ]
 
-  step_within : (old new : Flat K) → NodesMove old new → AreNodesWithin K old.nodes.present old.nodes.next_node → AreNodesWithin K new.nodes.present new.nodes.next_node
-  step_within old new (TableMoves.change f number total e n) a = rw (e, n) (record {
+  nodes_within : (old new : Flat K) → NodesMove old new → IsWithinSizes old → AreNodesWithin K new.nodes.present new.nodes.next_node
+  nodes_within old new (TableMoves.change f number total e n) s = rw (e, n) (record {
     totals = λ k h.
         let mapped = sum_by_map f (λ (x : ClusterNode). amount x.total k) old.nodes.present in
         let same : sum_by (λ (x : ClusterNode). amount (f x).total k) old.nodes.present ≡ sum_by (λ (x : ClusterNode). amount x.total k) old.nodes.present = λ i. sum_by (λ (x : ClusterNode). amount (total x i) k) old.nodes.present in
-        omega (arith, mapped, same, a.totals k h);
-    few = omega (arith, length-map old.nodes.present f, a.few);
-    numbers = a.numbers;
+        omega (arith, mapped, same, totals_amount old k h, s.totals k);
+    few = omega (arith, length-map old.nodes.present f, s.nodes);
+    numbers = s.node_numbers;
   })
-  step_within old new (TableMoves.goes m gone e n) a = rw (e, n) (record {
+  nodes_within old new (TableMoves.goes m gone e n) s = rw (e, n) (record {
     totals = λ k h.
-        omega (arith, a.totals k h, part_sum (λ (x : ClusterNode). amount x.total k) old.nodes.present (filter (λ x. not (x.number == m)) old.nodes.present) (part_filter (λ x. not (x.number == m)) old.nodes.present));
-    few = omega (arith, a.few, length-kept (λ (x : ClusterNode). not (x.number == m)) old.nodes.present);
-    numbers = a.numbers;
+        omega (arith, totals_amount old k h, s.totals k, part_sum (λ (x : ClusterNode). amount x.total k) old.nodes.present (filter (λ x. not (x.number == m)) old.nodes.present) (part_filter (λ x. not (x.number == m)) old.nodes.present));
+    few = omega (arith, s.nodes, length-kept (λ (x : ClusterNode). not (x.number == m)) old.nodes.present);
+    numbers = s.node_numbers;
   })
-  step_within old new (TableMoves.comes x number unrefused e n) a =
+  nodes_within old new (TableMoves.comes x number unrefused e n) s =
       let may = may_join old x.host x.total unrefused in
       rw (e, n) (record {
         totals = λ k h. omega (arith, sum_by_push (λ (x : ClusterNode). amount x.total k) old.nodes.present x, totals_amount old k h, amount-plus (total_of_nodes old) x.total k, may.within k);
@@ -60,7 +53,7 @@ module _ {K : ℕ} where
 
   call_sizes : (old new : Flat K) {request : Request K} {reply : Reply K} → IsWithinSizes old → Effect old request reply new → IsWithinSizes new
   call_sizes old new s call =
-      let a = step_within old new (call_nodes old new call) (nodes_of old s) in
+      let a = nodes_within old new (call_nodes old new call) s in
       let t = call_thins old new call in
       let same : length new.nodes.live ≡ length (filter t.test old.nodes.live) = ap length t.live in
       record {
@@ -72,24 +65,21 @@ module _ {K : ℕ} where
         container_numbers = omega (arith, t.next, s.container_numbers);
       }
 
-  step_sizes : (old new : Flat K) (event : Event K) → IsWithinSizes old → Step old event new → IsWithinSizes new
-  step_sizes old new event s step =
-      by_step old (λ e x. IsWithinSizes x) (λ by request reply x call. call_sizes old x s call)
-      (λ c admissible number. record {
-        totals = s.totals;
-        nodes = s.nodes;
-        live = omega (arith, (admissible.0).few_live, length-append old.nodes.live (c ∷ []));
-        app_numbers = s.app_numbers;
-        node_numbers = s.node_numbers;
-        container_numbers = omega (arith, (admissible.0).numbers_left);
-      })
-      (λ r admissible. record { totals = s.totals; nodes = s.nodes; live = s.live; app_numbers = s.app_numbers; node_numbers = s.node_numbers; container_numbers = s.container_numbers }) event new step
+pub sizes_stay : SizesStay
+sizes_stay K old new event s step =
+    by_step old (λ e x. IsWithinSizes x) (λ by request reply x call. call_sizes old x s call)
+    (λ c admissible number. record {
+      totals = s.totals;
+      nodes = s.nodes;
+      live = omega (arith, (admissible.0).few_live, length-append old.nodes.live (c ∷ []));
+      app_numbers = s.app_numbers;
+      node_numbers = s.node_numbers;
+      container_numbers = omega (arith, (admissible.0).numbers_left);
+    })
+    (λ r admissible. record { totals = s.totals; nodes = s.nodes; live = s.live; app_numbers = s.app_numbers; node_numbers = s.node_numbers; container_numbers = s.container_numbers }) event new step
 
 pub runs_stay_within_sizes : RunsStayWithinSizes
-runs_stay_within_sizes K first rest old new s run = at_each IsWithinSizes step_sizes first rest old new s run
-
-pub sizes_stay : SizesStay
-sizes_stay K old new event s step = step_sizes old new event s step
+runs_stay_within_sizes K first rest old new s run = at_each IsWithinSizes (sizes_stay K) first rest old new s run
 
 pub opened_is_within_sizes : OpenedIsWithinSizes
 opened_is_within_sizes K settings = record {

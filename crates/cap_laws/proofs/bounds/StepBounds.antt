@@ -1,5 +1,5 @@
 -- A step from a bounded cluster keeps each bound.
-use Rattle.cap_laws.proofs.Prelude.{◌≡◌, ℕ, true, List, [], ◌∷◌, refl, ◌∙◌, ap, inr, Option, Some, None, not, ◌==◌, ◌-◌, length, filter, find, map, option_map, if◌then◌else◌, All, Ask, Cause, Request, Reply, Flat, App, Reservation, app_at, containers_on, after_asks, with_ends, new_app, after_processed_allocate, after_telling, after_wishes, released_by, ended_by, Event, Step, AreApart, IsNodeBounded, IsReservationBounded, IsBounded, AreThere, NodesStayBounded, ReservationsStayApart, ReservationsStayBounded, each_of, of_each, find_changed, find_others, find_with_more, kept_if}
+use Rattle.cap_laws.proofs.Prelude.{◌≡◌, ℕ, true, List, [], ◌∷◌, refl, ◌∙◌, ap, inr, Option, Some, None, not, ◌==◌, ◌-◌, length, filter, find, map, option_map, if◌then◌else◌, All, Ask, Cause, Request, Reply, Flat, App, Reservation, app_at, containers_on, after_asks, with_ends, new_app, after_processed_allocate, after_telling, after_wishes, released_by, ended_by, AreApart, IsNodeBounded, IsReservationBounded, IsBounded, AreThere, NodesStayBounded, ReservationsStayApart, ReservationsStayBounded, each_of, of_each, find_changed, find_others, find_with_more, kept_if}
 use Rattle.cap_laws.proofs.lists.Parts.{part_itself, part_filter}
 use Rattle.cap_laws.proofs.calls.Steps.{Effect, by_step}
 use Rattle.cap_laws.proofs.calls.Moves.{gone_app}
@@ -55,36 +55,25 @@ module _ {K : ℕ} where
   call_keeps old new h b l (Effect.node_gone m) = asks_same old new l h (λ app node s. asking_at (with_ends Cause.NodeLost (containers_on old.nodes m)) (λ a. refl) (λ a. refl) app old.apps.active) b
   call_keeps old new h b l _ = asks_same old new l h (λ app node s. refl) b
 
-  -- steps
-
-  pub step_bounds_nodes : (old new : Flat K) (event : Event K) → IsBounded old → Step old event new → All (IsNodeBounded new) new.nodes.present
-  step_bounds_nodes old new event b s =
-      let h = places_of old b.formed in
-      by_step old (λ e x. All (IsNodeBounded x) x.nodes.present) (λ by request reply x call. nodes_stay old x (lessened old x call) h b.formed.nodes b.nodes)
-      (λ c admissible number. nodes_grow old b.formed.nodes c (admissible.1.0) b.nodes) (λ r admissible. b.nodes) event new s
-
-  pub step_apart : (old new : Flat K) (event : Event K) → IsBounded old → Step old event new → AreApart new.nodes.reserved
-  step_apart old new event b s =
-      by_step old (λ e x. AreApart x.nodes.reserved) (λ by request reply x call. apart_part old.nodes.reserved x.nodes.reserved (call_part old x call) b.apart)
-      (λ c admissible number.
-      apart_part old.nodes.reserved (filter (λ (r : Reservation). not (r.node == c.node)) old.nodes.reserved) (part_filter (λ (r : Reservation). not (r.node == c.node)) old.nodes.reserved) b.apart)
-      (λ r admissible. reserve_apart old r (admissible.0).present (admissible.1.1) b.apart) event new s
-
-  pub step_bounds_reservations : (old new : Flat K) (event : Event K) → IsBounded old → Step old event new → All (IsReservationBounded new) new.nodes.reserved
-  step_bounds_reservations old new event b s =
-      let h = places_of old b.formed in
-      let each = each_bounded old b in
-      let placed = each_of (λ (r : Reservation). AreThere old r.app r.node) old.nodes.reserved b.formed.reserved in
-      of_each (IsReservationBounded new) new.nodes.reserved
-      (by_step old (λ e x. AreBounded x) (λ by request reply x call. call_keeps old x h each (lessened old x call) call)
-      (λ c admissible number. grant_keeps old b.apart placed each c (seen_is old b.formed.apps c.app (admissible.0).registered) (admissible.1.1))
-      (λ r admissible. reserve_keeps old b.apart placed each r (seen_is old b.formed.apps r.app (admissible.0).registered) (admissible.1.0) (admissible.1.3)) event new s)
-
 pub nodes_stay_bounded : NodesStayBounded
-nodes_stay_bounded K old new event b s = step_bounds_nodes old new event b s
+nodes_stay_bounded K old new event b s =
+    let h = places_of old b.formed in
+    by_step old (λ e x. All (IsNodeBounded x) x.nodes.present) (λ by request reply x call. nodes_stay old x (lessened old x call) h b.formed.nodes b.nodes)
+    (λ c admissible number. nodes_grow old b.formed.nodes c (admissible.1.0) b.nodes) (λ r admissible. b.nodes) event new s
 
 pub reservations_stay_apart : ReservationsStayApart
-reservations_stay_apart K old new event b s = step_apart old new event b s
+reservations_stay_apart K old new event b s =
+    by_step old (λ e x. AreApart x.nodes.reserved) (λ by request reply x call. apart_part old.nodes.reserved x.nodes.reserved (call_part old x call) b.apart)
+    (λ c admissible number.
+    apart_part old.nodes.reserved (filter (λ (r : Reservation). not (r.node == c.node)) old.nodes.reserved) (part_filter (λ (r : Reservation). not (r.node == c.node)) old.nodes.reserved) b.apart)
+    (λ r admissible. reserve_apart old r (admissible.0).present (admissible.1.1) b.apart) event new s
 
 pub reservations_stay_bounded : ReservationsStayBounded
-reservations_stay_bounded K old new event b s = step_bounds_reservations old new event b s
+reservations_stay_bounded K old new event b s =
+    let h = places_of old b.formed in
+    let each = each_bounded old b in
+    let placed = each_of (λ (r : Reservation). AreThere old r.app r.node) old.nodes.reserved b.formed.reserved in
+    of_each (IsReservationBounded new) new.nodes.reserved
+    (by_step old (λ e x. AreBounded x) (λ by request reply x call. call_keeps old x h each (lessened old x call) call)
+    (λ c admissible number. grant_keeps old b.apart placed each c (seen_is old b.formed.apps c.app (admissible.0).registered) (admissible.1.1))
+    (λ r admissible. reserve_keeps old b.apart placed each r (seen_is old b.formed.apps r.app (admissible.0).registered) (admissible.1.0) (admissible.1.3)) event new s)

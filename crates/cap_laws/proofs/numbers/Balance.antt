@@ -22,13 +22,12 @@ module _ {K : ℕ} (old : Flat K) where
   answered request None = sym (ap (λ b. cond b old (granted_cluster old request)) (not_lacking old request))
   answered request (Some refusal) = same_or (is_no_memory {K = K} (Reply.Refused refusal)) old
 
-  pub determined : (new : Flat K) (event : Event K) → Step old event new → new ≡ after_event old event
-  determined new (Event.Call by request reply) (inl r) =
-      r.1 ∙ answered request (refusal_of old request) ∙ sym (ap (λ x. cond (is_no_memory x) old (after_request old request)) (r.0))
-  determined new (Event.Call by request reply) (inr r) =
-      r.1 ∙ sym (ap (λ x. cond (is_no_memory x) old (after_request old request)) (r.0.reply_is))
-  determined new (Event.Grant c) (admissible, number, after) = after
-  determined new (Event.Reserve r) (admissible, after) = after
+pub step_is_determined : StepIsDetermined
+step_is_determined K old new (Event.Call by request reply) (inl r) =
+    r.1 ∙ answered old request (refusal_of old request) ∙ sym (ap (λ x. cond (is_no_memory x) old (after_request old request)) (r.0))
+step_is_determined K old new (Event.Call by request reply) (inr r) = r.1 ∙ sym (ap (λ x. cond (is_no_memory x) old (after_request old request)) (r.0.reply_is))
+step_is_determined K old new (Event.Grant c) (admissible, number, after) = after
+step_is_determined K old new (Event.Reserve r) (admissible, after) = after
 
 -- members of lists in order
 
@@ -114,40 +113,34 @@ module _ {K : ℕ} where
       let live : count_by test x.nodes.live ≡ count_by test (filter t.test old.nodes.live) = ap (count_by test) t.live in
       let ended : count_by test (ended_between old x) ≡ count_by test (filter (λ c. not (t.test c)) old.nodes.live) = ap (count_by test) (ended_by_thinning old x r t) in
       omega (arith, live, ended, count_parts test t.test old.nodes.live))
-      (λ c admissible number.
-      let ended : count_by test (ended_between old (after_grant old c)) ≡ 0 = ap (count_by test) (none_ended old (after_grant old c) (c ∷ []) refl) in
-      omega (arith, ended, count_append test old.nodes.live (c ∷ [])))
-      (λ reservation admissible.
-      let ended : count_by test (ended_between old (after_reserve old reservation)) ≡ 0 = ap (count_by test) (none_ended old (after_reserve old reservation) [] (sym (append-nil old.nodes.live))) in
-      omega (arith, ended)) event new s
-
-  run_balance : (events : List (Event K)) (old new : Flat K) → HasDistinctNumbers old → Run old events new → (test : Container → Bool) →
-      count_by test new.nodes.live + count_by test (ever_ended old events) ≡ count_by test old.nodes.live + count_by test (ever_granted events)
-  run_balance [] old new r e test = let same : count_by test new.nodes.live ≡ count_by test old.nodes.live = ap (λ (x : Flat K). count_by test x.nodes.live) (sym e) in omega (arith, same)
-  run_balance (event ∷ events) old new r (mid, step, run) test =
-      let at : mid ≡ after_event old event = determined old mid event step in
-      let first = step_balance old mid event r step test in
-      let rest = run_balance events mid new (numbers_stay_distinct K old mid event r step) run test in
-      let ended : count_by test (ever_ended old (event ∷ events)) ≡ count_by test (ended_between old mid) + count_by test (ever_ended mid events) =
-      count_append test (ended_between old (after_event old event)) (ever_ended (after_event old event) events)
-      ∙ (λ i. count_by test (ended_between old (sym at i)) + count_by test (ever_ended (sym at i) events)) in
-      omega (arith, first, rest, ended, count_append test (granted_by event) (ever_granted events))
-
-pub step_is_determined : StepIsDetermined
-step_is_determined K old new event step = determined old new event step
+      (λ c admissible number. grown (after_grant old c) (c ∷ []) refl) (λ reservation admissible. grown (after_reserve old reservation) [] (sym (append-nil old.nodes.live))) event new s
+    where
+      grown : (x : Flat K) (more : List Container) → x.nodes.live ≡ old.nodes.live ++ more → count_by test x.nodes.live + count_by test (ended_between old x) ≡ count_by test old.nodes.live + count_by test more
+      grown x more e =
+          let live : count_by test x.nodes.live ≡ count_by test (old.nodes.live ++ more) = ap (count_by test) e in
+          let ended : count_by test (ended_between old x) ≡ 0 = ap (count_by test) (none_ended old x more e) in
+          omega (arith, live, ended, count_append test old.nodes.live more)
 
 pub run_leads_to_one_state : RunLeadsToOneState
 run_leads_to_one_state K [] old a b p q = sym p ∙ q
 run_leads_to_one_state K (event ∷ events) old a b (m, s, r) (n, t, u) =
-    let same : m ≡ n = determined old m event s ∙ sym (determined old n event t) in
+    let same : m ≡ n = step_is_determined K old m event s ∙ sym (step_is_determined K old n event t) in
     run_leads_to_one_state K events n a b (subst (λ (x : Flat K). Run x events a) same r) u
 
 pub containers_balance : ContainersBalance
-containers_balance K events old new r run test = run_balance events old new r run test
+containers_balance K [] old new r e test = let same : count_by test new.nodes.live ≡ count_by test old.nodes.live = ap (λ (x : Flat K). count_by test x.nodes.live) (sym e) in omega (arith, same)
+containers_balance K (event ∷ events) old new r (mid, step, run) test =
+    let at : mid ≡ after_event old event = step_is_determined K old mid event step in
+    let first = step_balance old mid event r step test in
+    let rest = containers_balance K events mid new (numbers_stay_distinct K old mid event r step) run test in
+    let ended : count_by test (ever_ended old (event ∷ events)) ≡ count_by test (ended_between old mid) + count_by test (ever_ended mid events) =
+    count_append test (ended_between old (after_event old event)) (ever_ended (after_event old event) events)
+    ∙ (λ i. count_by test (ended_between old (sym at i)) + count_by test (ever_ended (sym at i) events)) in
+    omega (arith, first, rest, ended, count_append test (granted_by event) (ever_granted events))
 
 pub ended_once : EndedOnce
 ended_once K events old new r run n =
-    let balance = run_balance events old new r run (is_numbered n) in
+    let balance = containers_balance K events old new r run (is_numbered n) in
     let all : IsRising 1 (container_numbers (old.nodes.live ++ ever_granted events)) new.nodes.next_container =
     rising_append 1 old.nodes.next_container old.nodes.live (ever_granted events) new.nodes.next_container r (granted_once K events old new run) in
     let few = (count_numbered (λ (c : Container). c.number) n 1 (old.nodes.live ++ ever_granted events) new.nodes.next_container all).0 in
@@ -191,31 +184,27 @@ module _ {K : ℕ} where
           e ∙ sym (filter_whole (λ d. not (is_among [] d)) (old.nodes.live ++ more) (λ d m. refl))
           ∙ ap (λ es. filter (λ d. not (is_among es d)) (old.nodes.live ++ more)) (sym (none_ended old x more e))
 
-  run_live : (events : List (Event K)) (old new : Flat K) → HasDistinctNumbers old → Run old events new →
-      new.nodes.live ≡ filter (λ c. not (is_among (ever_ended old events) c)) (old.nodes.live ++ ever_granted events)
-  run_live [] old new r e =
-      ap (λ (x : Flat K). x.nodes.live) (sym e) ∙ sym (append-nil old.nodes.live) ∙ sym (filter_whole (λ c. not (is_among [] c)) (old.nodes.live ++ []) (λ c m. refl))
-  run_live (event ∷ events) old new r (mid, step, run) =
-      let at : mid ≡ after_event old event = determined old mid event step in
-      let distinct = numbers_stay_distinct K old mid event r step in
-      let granted = ever_granted events in
-      let first_ended : Container → Bool = λ c. not (is_among (ended_between old mid) c) in
-      let then_ended : Container → Bool = λ c. not (is_among (ever_ended mid events) c) in
-      let ever : Container → Bool = λ c. not (is_among (ended_between old mid ++ ever_ended mid events) c) in
-      let forward : old.nodes.next_container ≤ mid.nodes.next_container =
-      rising_ends (λ (z : Container). z.number) old.nodes.next_container (ever_granted (event ∷ [])) mid.nodes.next_container (granted_once K (event ∷ []) old mid (mid, step, refl)) in
-      let later : filter first_ended granted ≡ granted =
-      filter_whole first_ended granted
-      (λ c m. ap not (among_earlier (λ d. not (is_among mid.nodes.live d)) 1 old.nodes.live old.nodes.next_container c r
-      (omega (arith, forward, rising_from_low (λ (z : Container). z.number) mid.nodes.next_container granted new.nodes.next_container c (granted_once K events mid new run) m)))) in
-      run_live events mid new distinct run
-      ∙ ap (λ cs. filter then_ended (cs ++ granted)) (step_live old mid event r step)
-      ∙ ap (λ cs. filter then_ended (filter first_ended (old.nodes.live ++ granted_by event) ++ cs)) (sym later)
-      ∙ ap (λ cs. filter then_ended cs) (sym (filter-append first_ended (old.nodes.live ++ granted_by event) granted))
-      ∙ filter_twice then_ended first_ended ever ((old.nodes.live ++ granted_by event) ++ granted)
-      (λ c. neither (is_among (ended_between old mid) c) (is_among (ever_ended mid events) c) (is_among (ended_between old mid ++ ever_ended mid events) c)
-      (list_any-append (λ d. d.number == c.number) (ended_between old mid) (ever_ended mid events)))
-      ∙ (λ i. filter (λ c. not (is_among (ended_between old (at i) ++ ever_ended (at i) events) c)) (append_assoc old.nodes.live (granted_by event) granted i))
-
 pub live_is_what_was_not_ended : LiveIsWhatWasNotEnded
-live_is_what_was_not_ended K events old new r run = run_live events old new r run
+live_is_what_was_not_ended K [] old new r e =
+    ap (λ (x : Flat K). x.nodes.live) (sym e) ∙ sym (append-nil old.nodes.live) ∙ sym (filter_whole (λ c. not (is_among [] c)) (old.nodes.live ++ []) (λ c m. refl))
+live_is_what_was_not_ended K (event ∷ events) old new r (mid, step, run) =
+    let at : mid ≡ after_event old event = step_is_determined K old mid event step in
+    let distinct = numbers_stay_distinct K old mid event r step in
+    let granted = ever_granted events in
+    let first_ended : Container → Bool = λ c. not (is_among (ended_between old mid) c) in
+    let then_ended : Container → Bool = λ c. not (is_among (ever_ended mid events) c) in
+    let ever : Container → Bool = λ c. not (is_among (ended_between old mid ++ ever_ended mid events) c) in
+    let forward : old.nodes.next_container ≤ mid.nodes.next_container =
+    rising_ends (λ (z : Container). z.number) old.nodes.next_container (ever_granted (event ∷ [])) mid.nodes.next_container (granted_once K (event ∷ []) old mid (mid, step, refl)) in
+    let later : filter first_ended granted ≡ granted =
+    filter_whole first_ended granted
+    (λ c m. ap not (among_earlier (λ d. not (is_among mid.nodes.live d)) 1 old.nodes.live old.nodes.next_container c r
+    (omega (arith, forward, rising_from_low (λ (z : Container). z.number) mid.nodes.next_container granted new.nodes.next_container c (granted_once K events mid new run) m)))) in
+    live_is_what_was_not_ended K events mid new distinct run
+    ∙ ap (λ cs. filter then_ended (cs ++ granted)) (step_live old mid event r step)
+    ∙ ap (λ cs. filter then_ended (filter first_ended (old.nodes.live ++ granted_by event) ++ cs)) (sym later)
+    ∙ ap (λ cs. filter then_ended cs) (sym (filter-append first_ended (old.nodes.live ++ granted_by event) granted))
+    ∙ filter_twice then_ended first_ended ever ((old.nodes.live ++ granted_by event) ++ granted)
+    (λ c. neither (is_among (ended_between old mid) c) (is_among (ever_ended mid events) c) (is_among (ended_between old mid ++ ever_ended mid events) c)
+    (list_any-append (λ d. d.number == c.number) (ended_between old mid) (ever_ended mid events)))
+    ∙ (λ i. filter (λ c. not (is_among (ended_between old (at i) ++ ever_ended (at i) events) c)) (append_assoc old.nodes.live (granted_by event) granted i))

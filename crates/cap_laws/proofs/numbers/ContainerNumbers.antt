@@ -1,5 +1,5 @@
 -- Container numbers are never used twice.
-use Rattle.cap_laws.proofs.Prelude.{◌≡◌, ℕ, Bool, true, List, [], ◌∷◌, ◌++◌, refl, sym, ◌∙◌, ap, subst, arith, not, filter, Ask, Request, Reply, Flat, Container, containers_on, containers_of, after_asks, is_among, after_processed_allocate, released_by, ended_by, Event, Step, Run, granted_by, ever_granted, IsRising, container_numbers, HasDistinctNumbers, NumbersStayDistinct, GrantedOnce, filter_whole, rising_kept, rising_more}
+use Rattle.cap_laws.proofs.Prelude.{◌≡◌, ℕ, Bool, true, List, [], ◌∷◌, ◌++◌, refl, sym, ◌∙◌, ap, subst, arith, not, filter, Ask, Request, Reply, Flat, Container, containers_on, containers_of, after_asks, is_among, after_processed_allocate, released_by, ended_by, granted_by, ever_granted, IsRising, container_numbers, HasDistinctNumbers, NumbersStayDistinct, GrantedOnce, filter_whole, rising_kept, rising_more}
 use Rattle.cap_laws.proofs.calls.Steps.{Effect, by_step, over_asks}
 
 module _ {K : ℕ} where
@@ -40,23 +40,17 @@ module _ {K : ℕ} where
       let b : IsRising 1 (container_numbers new.nodes.live) old.nodes.next_container = subst (λ cs. IsRising 1 (container_numbers cs) old.nodes.next_container) (sym t.live) a in
       subst (λ n. IsRising 1 (container_numbers new.nodes.live) n) (sym t.next) b
 
-  step_numbers : (old new : Flat K) (event : Event K) → HasDistinctNumbers old → Step old event new → HasDistinctNumbers new
-  step_numbers old new event r s =
-      by_step old (λ e x. HasDistinctNumbers x) (λ by request reply x call. thinned_numbers old x (call_thins old x call) r)
-      (λ c admissible number. rising_more (λ (z : Container). z.number) 1 old.nodes.live c old.nodes.next_container number r) (λ reservation admissible. r) event new s
-
-  run_numbers : (events : List (Event K)) (old new : Flat K) → Run old events new → IsRising old.nodes.next_container (container_numbers (ever_granted events)) new.nodes.next_container
-  run_numbers [] old new e = let n : old.nodes.next_container ≡ new.nodes.next_container = ap (λ (c : Flat K). c.nodes.next_container) e in omega (arith, n)
-  run_numbers (event ∷ events) old new (mid, step, run) =
-      by_step old (λ e x. RisesFrom x.nodes.next_container [] → RisesFrom old.nodes.next_container (granted_by e))
-      (λ by request reply x call rest. subst (λ n. RisesFrom n []) (call_thins old x call).next rest)
-      (λ c admissible number rest. (omega (arith, number), subst (λ n. RisesFrom n []) (omega (arith, number)) rest)) (λ r admissible rest. rest) event mid step (run_numbers events mid new run)
-    where
-      RisesFrom : ℕ → List Container → Type 0
-      RisesFrom n granted = IsRising n (container_numbers (granted ++ ever_granted events)) new.nodes.next_container
-
 pub numbers_stay_distinct : NumbersStayDistinct
-numbers_stay_distinct K old new event r step = step_numbers old new event r step
+numbers_stay_distinct K old new event r step =
+    by_step old (λ e x. HasDistinctNumbers x) (λ by request reply x call. thinned_numbers old x (call_thins old x call) r)
+    (λ c admissible number. rising_more (λ (z : Container). z.number) 1 old.nodes.live c old.nodes.next_container number r) (λ reservation admissible. r) event new step
 
 pub granted_once : GrantedOnce
-granted_once K events old new run = run_numbers events old new run
+granted_once K [] old new e = let n : old.nodes.next_container ≡ new.nodes.next_container = ap (λ (c : Flat K). c.nodes.next_container) e in omega (arith, n)
+granted_once K (event ∷ events) old new (mid, step, run) =
+    by_step old (λ e x. RisesFrom x.nodes.next_container [] → RisesFrom old.nodes.next_container (granted_by e))
+    (λ by request reply x call rest. subst (λ n. RisesFrom n []) (call_thins old x call).next rest)
+    (λ c admissible number rest. (omega (arith, number), subst (λ n. RisesFrom n []) (omega (arith, number)) rest)) (λ r admissible rest. rest) event mid step (granted_once K events mid new run)
+  where
+    RisesFrom : ℕ → List Container → Type 0
+    RisesFrom n granted = IsRising n (container_numbers (granted ++ ever_granted events)) new.nodes.next_container

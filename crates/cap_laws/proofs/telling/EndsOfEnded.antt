@@ -4,7 +4,7 @@ use Rattle.cap_laws.proofs.lists.Tables.{used, next_rises}
 use Rattle.cap_laws.proofs.calls.Steps.{Effect, by_step}
 use Rattle.cap_laws.proofs.calls.Moves.{step_moves}
 use Rattle.cap_laws.proofs.numbers.ContainerNumbers.{asks_keep}
-use Rattle.cap_laws.proofs.numbers.Balance.{determined, none_ended, ended_by_thinning}
+use Rattle.cap_laws.proofs.numbers.Balance.{step_is_determined, none_ended, ended_by_thinning}
 use Rattle.cap_laws.proofs.numbers.AppNumbers.{never_back}
 use Rattle.cap_laws.proofs.telling.News.{new_of, ends, ends_told, nothing_either}
 use Rattle.cap_laws.proofs.telling.ToldRuns.{quiet, not_live, none_ends}
@@ -74,7 +74,7 @@ module _ (n number : ℕ) where
   run_ends {K} (event ∷ events) old new b (mid, step, run) h = joined (by (there_or_not (app_at mid n)) (there_or_not (app_at old n))) (run_ends events mid new (step_stays_bounded K old mid event b step) run h)
     where
       at : mid ≡ after_event old event
-      at = determined old mid event step
+      at = step_is_determined K old mid event step
 
       by : (IsSome (app_at mid n) ⊎ (app_at mid n ≡ None)) → (IsSome (app_at old n) ⊎ (app_at old n ≡ None)) → told (new_ends old n event) ≡ count_by it (ended_between old mid)
       by (inl a) o = step_ends old b event mid step a

@@ -4,7 +4,7 @@ use Rattle.cap_laws.proofs.lists.Tables.{numbers_move, used, next_rises, spent}
 use Rattle.cap_laws.proofs.calls.Steps.{Effect, by_step}
 use Rattle.cap_laws.proofs.calls.Moves.{step_moves, allocate_change, ends_change, grant_change}
 use Rattle.cap_laws.proofs.numbers.AppNumbers.{never_back, kept_change}
-use Rattle.cap_laws.proofs.numbers.Balance.{determined}
+use Rattle.cap_laws.proofs.numbers.Balance.{step_is_determined}
 use Rattle.cap_laws.proofs.choice.Proposers.{seen_is}
 use Rattle.cap_laws.proofs.bounds.Formed.{step_formed}
 use Rattle.cap_laws.proofs.telling.News.{News, IsNews, AreTold, untold, told_of, new_of, grants, ends, grants_are, ends_are, grants_told, ends_told}
@@ -92,7 +92,7 @@ module _ {N : Type 0} {k : News N} {K : ℕ} {told new : Flat K → ℕ → Even
   then_nothing : (old mid : Flat K) (event : Event K) (events : List (Event K)) → Step old event mid → (told old n event ≡ []) × (new old n event ≡ []) → (ever_told mid n events ≡ []) × (ever_new mid n events ≡ []) →
       (ever_told old n (event ∷ events) ≡ []) × (ever_new old n (event ∷ events) ≡ [])
   then_nothing old mid event events step q rest =
-      let at = determined old mid event step in
+      let at = step_is_determined K old mid event step in
       let more = are.more old n event events in
       (more.0 ∙ (λ i. (q.0) i ++ (ap (λ c. ever_told c n events) (sym at) ∙ rest.0) i), more.1 ∙ (λ i. (q.1) i ++ (ap (λ c. ever_new c n events) (sym at) ∙ rest.1) i))
 
@@ -123,7 +123,7 @@ module _ {N : Type 0} {k : News N} {K : ℕ} {told new : Flat K → ℕ → Even
             rest.0,
             ap (λ xs. xs ++ rest.0) (more.0)
                 ∙ told_joined (told old n event) (ever_told (after_event old event) n events) (rest.0) (untold k old n) (untold k mid n) (new old n event) (ever_new (after_event old event) n events) first
-                (subst (λ c. ever_told c n events ++ rest.0 ≡ untold k mid n ++ ever_new c n events) (determined old mid event step) (rest.1))
+                (subst (λ c. ever_told c n events ++ rest.0 ≡ untold k mid n ++ ever_new c n events) (step_is_determined K old mid event step) (rest.1))
                 ∙ ap (λ xs. untold k old n ++ xs) (sym (more.1)),
             rest.2,
           )

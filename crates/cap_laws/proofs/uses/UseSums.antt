@@ -1,5 +1,6 @@
 -- Uses are sums: at most twice what the nodes have together.
-use Rattle.cap_laws.proofs.Prelude.{◌≡◌, ℕ, ◌+◌, ◌≤◌, ◌<◌, Bool, true, false, List, [], ◌∷◌, refl, sym, ◌∙◌, ap, inl, inr, arith, Option, Some, None, IsSome, cond, ◌==◌, find, if◌then◌else◌, sum_by, cases_lt, nat_tests, length-map-range_with_len, sum_by-cons, sum_by-le-sum_by, amount, holds_of, fits, part, Flat, App, ClusterNode, Container, Reservation, app_at, node_at, is_under, Holding, holdings, use_of, node_held, total_of_nodes, AreApart, IsNodeBounded, IsReservationBounded, AreThere, IsBounded, UsesAreSums, IsIn, found, each_of, found_by_number, sum_of_two, counts, counted, use_amount, use_past, held_amount, fits_amounts, amount_of, value_of}
+use Rattle.cap_laws.proofs.Prelude.{◌≡◌, ℕ, ◌+◌, ◌≤◌, ◌<◌, Bool, true, false, List, [], ◌∷◌, refl, sym, ◌∙◌, ap, inl, inr, arith, Option, Some, None, IsSome, cond, ◌==◌, find, if◌then◌else◌, sum_by, cases_lt, nat_tests, length-map-range_with_len, sum_by-cons, sum_by-le-sum_by, amount, holds_of, fits, part, Flat, App, ClusterNode, Container, Reservation, app_at, node_at, is_under, Holding, holdings, use_of, node_held, total_of_nodes, AreApart, IsNodeBounded, IsReservationBounded, AreThere, IsBounded, UsesAreSums, IsIn, found, each_of, found_by_number, sum_of_two, counts, counted, use_amount, use_past, held_amount, fits_amounts, value_of}
+use Rattle.cap_laws.proofs.bounds.Sizes.{totals_amount}
 use Rattle.cap_laws.proofs.bounds.Growing.{in_sum}
 use Rattle.cap_laws.proofs.bounds.Wanting.{none_there}
 
@@ -75,9 +76,6 @@ module _ {K : ℕ} (cluster : Flat K) (b : IsBounded cluster) where
       let fitting : fits r.resource x.total ≡ true = ap (holds_of (λ (node : ClusterNode). fits r.resource node.total)) (sym at) ∙ bounded.node in
       fits_amounts r.resource x.total fitting k
 
-  totals_amount : (k : ℕ) → k < K → amount (total_of_nodes cluster) k ≡ sum_by (λ (x : ClusterNode). amount x.total k) cluster.nodes.present
-  totals_amount k h = amount_of K (part (λ (x : ClusterNode). true) (λ x. x.total) cluster.nodes.present) k h
-
   live_within : (k : ℕ) → k < K → sum_by (λ (c : Container). amount c.resource k) cluster.nodes.live ≤ amount (total_of_nodes cluster) k
   live_within k h =
       let placed = each_of (λ (c : Container). AreThere cluster c.app c.node) cluster.nodes.live b.formed.live in
@@ -87,7 +85,7 @@ module _ {K : ℕ} (cluster : Flat K) (b : IsBounded cluster) where
       let held = held_amount cluster x.number k h in
       let f = fits_amounts (node_held cluster x.number) x.total (each_of (IsNodeBounded cluster) cluster.nodes.present b.nodes x m) k in
       omega (arith, held, f)) in
-      let totals = totals_amount k h in
+      let totals = totals_amount cluster k h in
       omega (arith, spread, each, totals)
 
   reserved_within : (k : ℕ) → k < K → sum_by (λ (r : Reservation). amount r.resource k) cluster.nodes.reserved ≤ amount (total_of_nodes cluster) k
@@ -96,7 +94,7 @@ module _ {K : ℕ} (cluster : Flat K) (b : IsBounded cluster) where
       let spread = reserved_on_nodes k cluster.nodes.present cluster.nodes.reserved b.apart (λ r m. node_is r.node (placed r m).1) in
       let each = sum_below (λ (x : ClusterNode). taken k (find (λ (r : Reservation). r.node == x.number) cluster.nodes.reserved)) (λ x. amount x.total k) cluster.nodes.present
       (λ x m. takes_less k x m (find (λ (r : Reservation). r.node == x.number) cluster.nodes.reserved) refl) in
-      let totals = totals_amount k h in
+      let totals = totals_amount cluster k h in
       omega (arith, spread, each, totals)
 
   -- a use is at most twice the totals
