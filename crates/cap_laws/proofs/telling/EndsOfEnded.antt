@@ -65,8 +65,9 @@ module _ (n number : ℕ) where
     call_ends by new _ h = sym (still new refl)
 
     step_ends : (event : Event K) (new : Flat K) → Step old event new → IsSome (app_at new n) → told (new_ends old n event) ≡ count_by it (ended_between old new)
-    step_ends event new s h = ap told (ends_told.new_is old n event) ∙
-        by_step old (λ e x. IsSome (app_at x n) → told (new_of ends old n e) ≡ count_by it (ended_between old x)) (λ by request reply x call h. call_ends by x call h)
+    step_ends event new s h =
+        ap told (ends_told.new_is old n event)
+        ∙ by_step old (λ e x. IsSome (app_at x n) → told (new_of ends old n e) ≡ count_by it (ended_between old x)) (λ by request reply x call h. call_ends by x call h)
         (λ c admissible at h. ap told (nothing_either (c.app == n)) ∙ sym (ap (count_by it) (none_ended old (after_grant old c) (c ∷ []) refl))) (λ r admissible h. sym (still (after_reserve old r) refl)) event new s h
 
   run_ends : {K : ℕ} (events : List (Event K)) (old new : Flat K) → IsBounded old → Run old events new → IsSome (app_at new n) → told (ever_new_ends old n events) ≡ count_by it (ever_ended old events)
