@@ -1,6 +1,7 @@
 -- What a Refresh sets.
-use Rattle.cap_laws.proofs.Prelude.{◌≡◌, ℕ, Bool, true, false, List, refl, sym, ◌∙◌, ap, subst, inl, inr, Option, Some, None, IsSome, find, map, option_map, bytes_eq, list_all, option_map_or, and_parts, bytes_eq-Decides, QueueRow, Settings, has_path, has_same_paths, ConfigFault, first_fault, settings_in, found, all_in, find_mapped_at, map_twice, map_same, value_of, not_none, Reply, Request, Event, Flat, refreshed_queue, refreshed_settings, first_of_queue, first_of_settings, lines_refusal, has_its_queues, with_settings, after_refresh, refused_or, refusal_of, Step, IsRefreshed, RefreshSetsAll}
+use Rattle.cap_laws.proofs.Prelude.{◌≡◌, ℕ, Bool, true, false, List, refl, sym, ◌∙◌, ap, subst, Option, Some, None, IsSome, find, map, option_map, bytes_eq, list_all, option_map_or, and_parts, bytes_eq-Decides, QueueRow, Settings, has_path, has_same_paths, ConfigFault, first_fault, settings_in, found, all_in, find_mapped_at, map_twice, map_same, value_of, not_none, Request, Event, Flat, refreshed_queue, refreshed_settings, first_of_queue, first_of_settings, lines_refusal, has_its_queues, with_settings, after_refresh, Step, IsRefreshed, RefreshSetsAll}
 use Rattle.cap_model.specs.declared.reply.ReplyWith.TheVariants as Reply
+use Rattle.cap_laws.proofs.calls.Steps.{by_reply}
 
 -- a queue that keeps its path is found as before
 pub find_kept : (f : QueueRow → QueueRow) → ((q : QueueRow) → (f q).path ≡ q.path) → (path : List ℕ) (qs : List QueueRow) →
@@ -51,11 +52,10 @@ module _ (K : ℕ) (rows old : List QueueRow) (same : has_same_paths rows old �
               let its : row.path ≡ path = (bytes_eq-Decides row.path path).0 f.1 in
               absurd (not_none (at path old) g (subst (λ p. IsSome (at p old)) its (all_in (λ (x : QueueRow). has_path old x.path) rows row both.0 f.0)))
 
--- lines that are not refused have no fault, and the same paths
-unrefused : {K : ℕ} (fault : Option ConfigFault) (same : Bool) → Reply.Refresh ≡ refused_or {A = Reply K} (lines_refusal fault same) (λ refusal. Reply.Refused refusal) Reply.Refresh →
-    (lines_refusal fault same ≡ None) × (same ≡ true)
+-- lines that are not refused have the same paths
+unrefused : (fault : Option ConfigFault) (same : Bool) → lines_refusal fault same ≡ None → same ≡ true
 unrefused (Some fault) same e = absurd (cc e)
-unrefused None true e = (refl, refl)
+unrefused None true e = refl
 unrefused None false e = absurd (cc e)
 
 module _ (K : ℕ) (old : Flat K) (lines : List ℕ) (settings : Settings) (is : settings_in lines ≡ Some settings) where
@@ -74,13 +74,13 @@ module _ (K : ℕ) (old : Flat K) (lines : List ℕ) (settings : Settings) (is :
       }
 
   refresh_sets : (new : Flat K) (by : ℕ) → Step old (Event.Call by (Request.Refresh lines) Reply.Refresh) new → IsRefreshed settings old new
-  refresh_sets new by (inr r) = absurd (cc r.0.reply_is)
-  refresh_sets new by (inl r) =
-      let refusal : refusal_of old (Request.Refresh lines) ≡ lines_refusal (first_fault lines) (has_its_queues old settings) = λ i. lines_refusal (first_fault lines) (option_map_or (has_its_queues old) (is i) true) in
-      let u = unrefused (first_fault lines) (has_its_queues old settings) (r.0 ∙ ap (λ o. refused_or {A = Reply K} o (λ refusal. Reply.Refused refusal) Reply.Refresh) refusal) in
+  refresh_sets new by step =
+      by_reply old (Request.Refresh lines) (λ reply x. reply ≡ Reply.Refresh → IsRefreshed settings old x) (λ refusal e. absurd (cc e))
+      (λ passed e.
+      let same = unrefused (first_fault lines) (has_its_queues old settings) (sym (λ i. lines_refusal (first_fault lines) (option_map_or (has_its_queues old) (is i) true)) ∙ passed) in
       let after : after_refresh old lines ≡ with_settings (first_of_settings K settings) old =
       λ i. record old { settings = option_map_or (λ x. refreshed_settings (first_of_settings K x) old.settings) (is i) old.settings } in
-      subst (IsRefreshed settings old) (sym (r.1 ∙ ap (λ o. refused_or o (λ refusal. old) (after_refresh old lines)) (refusal ∙ u.0) ∙ after)) (refreshed u.1)
+      subst (IsRefreshed settings old) (sym after) (refreshed same)) Reply.Refresh new step refl
 
 pub refresh_sets_all : RefreshSetsAll
 refresh_sets_all K old new by lines settings is step = refresh_sets K old lines settings is new by step

@@ -68,14 +68,18 @@ module _ {K : ℕ} (old : Flat K) where
   granted (Request.Refresh text) e = Effect.refresh text
   granted _ e = Effect.nothing (λ by n. (refl, refl))
 
-  pub effect : (request : Request K) (reply : Reply K) (new : Flat K) → Replies old request reply new → Effect request reply new
-  effect request reply new (inl r) = rw (r.0, r.1) (by (refusal_of old request) refl)
+  -- What holds of each refusal, which changes nothing, and of a call that is not refused, holds of each reply.
+  pub by_reply : (request : Request K) (P : Reply K → Flat K → Type 0) → ((refusal : Refusal) → P (Reply.Refused refusal) old) →
+      (refusal_of old request ≡ None → P (granted_reply old request) (granted_cluster old request)) → (reply : Reply K) (new : Flat K) → Replies old request reply new → P reply new
+  by_reply request P refused unrefused reply new (inl r) = rw (r.0, r.1) (by (refusal_of old request) refl)
     where
-      by : (o : Option Refusal) → refusal_of old request ≡ o →
-          Effect request (refused_or o (λ refusal. Reply.Refused refusal) (granted_reply old request)) (refused_or o (λ refusal. old) (granted_cluster old request))
-      by None e = granted request e
-      by (Some refusal) e = Effect.nothing (refused request refusal)
-  effect request reply new (inr r) = rw (r.0.reply_is, r.1) (Effect.nothing (refused request Refusal.NoMemory))
+      by : (o : Option Refusal) → refusal_of old request ≡ o → P (refused_or o (λ refusal. Reply.Refused refusal) (granted_reply old request)) (refused_or o (λ refusal. old) (granted_cluster old request))
+      by None e = unrefused e
+      by (Some refusal) e = refused refusal
+  by_reply request P refused unrefused reply new (inr r) = rw (r.0.reply_is, r.1) (refused Refusal.NoMemory)
+
+  pub effect : (request : Request K) (reply : Reply K) (new : Flat K) → Replies old request reply new → Effect request reply new
+  effect request = by_reply request (Effect request) (λ refusal. Effect.nothing (refused request refusal)) (granted request)
 
   -- What holds of the effect of each call, of each grant and of each reservation holds of each step.
   pub by_step : (P : Event K → Flat K → Type 0) →

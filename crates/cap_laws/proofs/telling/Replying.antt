@@ -1,6 +1,6 @@
 -- A reply in full is what it was, and its grants and ends have room.
-use Rattle.cap_laws.proofs.Prelude.{◌≡◌, ℕ, ◌≤◌, ◌+◌, Bool, true, false, List, [], ◌∷◌, ◌++◌, refl, sym, ◌∙◌, ap, subst, inl, inr, arith, Option, Some, None, IsSome, cond, not, ◌-◌, min, length, find, map, filter, ◌==◌, unwrap_or, option_map, option_and_then, if◌then◌else◌, option_map_or, length-take, length-append, length-map, length-filter, count_by-le-length, nat_tests, cons_option, Ask, AllocateReply, Reply, End, Cause, Request, Refusal, news_max, Flat, App, Container, app_at, containers_of, nothing_told, after_telling, after_processed_allocate, after_wishes, kept_reply, is_repeated_allocate, released_by, Replies, refused_or, refusal_of, granted_reply, NewsRoom, news_most, HasRoomFor, IsNoAllocate, named_among, holds_of, is_repeated, ends_of, find_changed, kept_if}
-use Rattle.cap_model.specs.declared.reply.ReplyWith.TheVariants as Reply
+use Rattle.cap_laws.proofs.Prelude.{◌≡◌, ℕ, ◌≤◌, ◌+◌, Bool, true, false, List, [], ◌∷◌, ◌++◌, refl, sym, ◌∙◌, ap, subst, arith, Option, Some, None, IsSome, cond, not, ◌-◌, min, length, find, map, filter, ◌==◌, unwrap_or, option_map, option_and_then, if◌then◌else◌, option_map_or, length-take, length-append, length-map, length-filter, count_by-le-length, nat_tests, cons_option, Ask, AllocateReply, Reply, End, Cause, Request, news_max, Flat, App, Container, app_at, containers_of, nothing_told, after_telling, after_processed_allocate, after_wishes, kept_reply, is_repeated_allocate, released_by, Replies, granted_reply, NewsRoom, news_most, HasRoomFor, IsNoAllocate, named_among, holds_of, is_repeated, ends_of, find_changed, kept_if}
+use Rattle.cap_laws.proofs.calls.Steps.{by_reply}
 use Rattle.cap_laws.proofs.telling.News.{News, untold, grants, ends, grants_are, ends_are}
 use Rattle.cap_laws.proofs.telling.Telling.{its_number, its_test, allocate_tells}
 
@@ -122,20 +122,14 @@ module _ {K : ℕ} (old : Flat K) (n id : ℕ) (asks : List Ask) (releases : Lis
       subst (λ (m : NewsRoom). (length told.grants ≤ m.grants) × (length told.ends ≤ m.ends)) (sym is) (fresh_room app there)
 
   pub some_room : (app : App) → app_at old n ≡ Some app → (reply : Reply K) (new : Flat K) → Replies old (Request.Allocate n id asks releases) reply new → HasRoomFor reply (news_most app id (length releases))
-  some_room app there reply new (inr r) = subst (λ x. HasRoomFor x (news_most app id (length releases))) (sym r.0.reply_is) tt
-  some_room app there reply new (inl r) =
-      subst (λ x. HasRoomFor x (news_most app id (length releases))) (sym r.0) (by (refusal_of old (Request.Allocate n id asks releases)))
-    where
-      by : (o : Option Refusal) → HasRoomFor (refused_or o (λ refusal. Reply.Refused refusal) (granted_reply old (Request.Allocate n id asks releases))) (news_most app id (length releases))
-      by (Some refusal) = tt
-      by None = allocate_room app there (is_repeated_allocate old n id) (sym (ap (λ (o : Option App). holds_of (λ (a : App). is_repeated a.response a.kept id) o) there))
+  some_room app there =
+      by_reply old (Request.Allocate n id asks releases) (λ reply new. HasRoomFor reply (news_most app id (length releases))) (λ refusal. tt)
+      (λ unrefused. allocate_room app there (is_repeated_allocate old n id) (sym (ap (λ (o : Option App). holds_of (λ (a : App). is_repeated a.response a.kept id) o) there)))
 
 -- the other calls report no grants and no ends
 pub other_room : {K : ℕ} (old : Flat K) (request : Request K) (room : NewsRoom) → IsNoAllocate request → (reply : Reply K) (new : Flat K) → Replies old request reply new → HasRoomFor reply room
-other_room old request room other reply new (inr r) = subst (λ x. HasRoomFor x room) (sym r.0.reply_is) tt
-other_room {K} old request room other reply new (inl r) = subst (λ x. HasRoomFor x room) (sym r.0) (by request other (refusal_of old request))
+other_room {K} old request room other = by_reply old request (λ reply new. HasRoomFor reply room) (λ refusal. tt) (λ unrefused. by request other)
   where
-    by : (request : Request K) → IsNoAllocate request → (o : Option Refusal) → HasRoomFor (refused_or o (λ refusal. Reply.Refused refusal) (granted_reply old request)) room
-    by request other (Some refusal) = tt
-    by (Request.Allocate app id asks releases) other None = absurd other
-    by request other None = tt
+    by : (request : Request K) → IsNoAllocate request → HasRoomFor (granted_reply old request) room
+    by (Request.Allocate app id asks releases) other = absurd other
+    by request other = tt
