@@ -3,7 +3,7 @@ ghost use Rattle.std.specs.Prelude.{◌≡◌, ◌<◌};
 ghost use Rattle.cap_session.specs.Counted.{state_of, CanCount};
 
 use crate::input::read_all;
-use cap_config::{ConfigFault, ConfigFaultKind, read_config};
+use cap_config::{ConfigFaultKind, DetailedFault, read_detailed};
 use cap_explain::explain;
 use cap_session::{Counted, write_out};
 use cap_words::{describe, queue_table};
@@ -27,23 +27,23 @@ pub(crate) fn check_settings<R: Read, W: Write>(
         Ok(text) => text,
         Err(unread) => return unread.status(),
     };
-    match read_config(alloc, &text) {
+    match read_detailed(alloc, &text) {
         Ok(config) => match queue_table(alloc, &config) {
             Ok(table) => print(writer, table.as_bytes()),
             Err(_) => 3,
         },
-        Err(fault) => complain(alloc, &text, &fault, complaint),
+        Err(found) => complain(alloc, &text, &found, complaint),
     }
 }
 
 /// Leaves the words for a fault of the settings in `complaint`.
-pub fn complain(alloc: Global, text: &[u8], fault: &ConfigFault, complaint: &mut String) -> u8
+pub fn complain(alloc: Global, text: &[u8], found: &DetailedFault, complaint: &mut String) -> u8
     ensures { result < 4 }
 {
-    if fault.kind == ConfigFaultKind::NoMemory {
+    if found.fault.kind == ConfigFaultKind::NoMemory {
         return 3;
     }
-    let Ok(words) = describe(alloc, text, fault) else {
+    let Ok(words) = describe(alloc, text, found) else {
         return 3;
     };
     match (complaint.push_str(words.as_str()), complaint.push_str("\n")) {

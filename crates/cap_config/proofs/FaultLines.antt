@@ -99,27 +99,27 @@ whole_is n entries all =
     or_fault_is n (shape_fault entries) _ (shape_is n entries all) (or_is n _ OverParent None (where_is n (is_over_parent entries) entries all) (λ e. absurd (cc e)) tt)
 
 -- what line n sets, or its fault
-abbrev IsOfLine : ℕ → Result Entry ConfigFault → Type 0
+abbrev pub IsOfLine : ℕ → Result Entry ConfigFault → Type 0
 IsOfLine n (Ok entry) = entry.line ≡ n
-IsOfLine n (Err fault) = IsOfText n fault
+IsOfLine n (Err fault) = (fault.line ≡ n) × (fault.kind ≢ NoMemory)
 
 value_is : (n : ℕ) (key : Key) (o : Option Value) → IsOfLine n (with_value n key o)
 value_is n key (Some value) = refl
-value_is n key None = record { line = omega arith; kind = λ e. absurd (cc e) }
+value_is n key None = (refl, λ e. absurd (cc e))
 
 unless_is : (n : ℕ) (stood : Bool) (here : Result Entry ConfigFault) → IsOfLine n here → IsOfLine n (cond stood (Err (fault_at n Repeated)) here)
-unless_is n true here h = record { line = omega arith; kind = λ e. absurd (cc e) }
+unless_is n true here h = (refl, λ e. absurd (cc e))
 unless_is n false here h = h
 
 key_is : (keys : List (List ℕ)) (n : ℕ) (name bytes : List ℕ) (o : Option Key) → IsOfLine n (with_key keys n name bytes o)
 key_is keys n name bytes (Some key) = unless_is n (contains_bytes keys name) _ (value_is n key (value_of key bytes))
-key_is keys n name bytes None = record { line = omega arith; kind = λ e. absurd (cc e) }
+key_is keys n name bytes None = (refl, λ e. absurd (cc e))
 
 parts_is : (keys : List (List ℕ)) (n : ℕ) (o : Option (List ℕ × List ℕ)) → IsOfLine n (with_parts keys n o)
 parts_is keys n (Some parts) = key_is keys n parts.0 parts.1 (key_of parts.0)
-parts_is keys n None = record { line = omega arith; kind = λ e. absurd (cc e) }
+parts_is keys n None = (refl, λ e. absurd (cc e))
 
-entry_is : (keys : List (List ℕ)) (n : ℕ) (line : List ℕ) → IsOfLine n (entry_of keys n line)
+pub entry_is : (keys : List (List ℕ)) (n : ℕ) (line : List ℕ) → IsOfLine n (entry_of keys n line)
 unfolding entry_of
 entry_is keys n line = parts_is keys n (line_parts line)
 
@@ -128,14 +128,14 @@ abbrev IsOfLines : ℕ → Result (List Entry) ConfigFault → Type 0
 IsOfLines n (Ok entries) = are_within n entries ≡ true
 IsOfLines n (Err fault) = IsOfText n fault
 
-weaker : (n m : ℕ) (fault : ConfigFault) → n ≤ m → IsOfText n fault → IsOfText m fault
-weaker n m fault h is = let l = is.line in record { line = omega (arith, l, h); kind = is.kind }
+weaker : (n m : ℕ) (fault : ConfigFault) → n ≤ m → fault.line ≡ n → fault.kind ≢ NoMemory → IsOfText m fault
+weaker n m fault h l k = record { line = omega (arith, l, h); kind = k }
 
 by_line : (n m : ℕ) (passed : Bool) (later : Result (List Entry) ConfigFault) (here : Result Entry ConfigFault) (next : Entry → Result (List Entry) ConfigFault) → n ≤ m →
     IsOfLines m later → IsOfLine n here → ((entry : Entry) → entry.line ≡ n → IsOfLines m (next entry)) → IsOfLines m (cond passed later (and_then here next))
 by_line n m true later here next h rest is more = rest
 by_line n m false later (Ok entry) next h rest is more = more entry is
-by_line n m false later (Err fault) next h rest is more = weaker n m fault h is
+by_line n m false later (Err fault) next h rest is more = weaker n m fault h is.0 is.1
 
 within_push : (m : ℕ) (entries : List Entry) (entry : Entry) → are_within m entries ≡ true → entry.line ≤ m → are_within m (entries ++ entry ∷ []) ≡ true
 within_push m entries entry all one =

@@ -31,3 +31,4 @@ pub mod Printable
 pub mod Missing
 pub mod RowAmounts
 pub mod FaultLines
+pub mod LineDetails

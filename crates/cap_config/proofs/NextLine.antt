@@ -1,5 +1,5 @@
 -- A line after those before.
-use Rattle.cap_config.proofs.Prelude.{◌≡◌, ℕ, ◌+◌, List, [], ◌∷◌, ◌++◌, length, true, false, Some, None, Result, Ok, Err, refl, arith, lines, Entry, Key, Value, ConfigFault, ConfigFaultKind, BadLine, UnknownKey, Repeated, BadValue, NoMemory, fault_at, FailsBy, key_of, contains_bytes, value_of, line_parts, entry_of, is_passed_over, read_after, key_text}
+use Rattle.cap_config.proofs.Prelude.{◌≡◌, ℕ, ◌+◌, List, [], ◌∷◌, ◌++◌, length, true, false, Some, None, Result, Ok, Err, refl, sym, ap, ◌∙◌, append_assoc, length-append, arith, lines, Entry, Key, Value, ConfigFault, ConfigFaultKind, BadLine, UnknownKey, Repeated, BadValue, NoMemory, fault_at, FailsBy, key_of, contains_bytes, value_of, line_parts, entry_of, is_passed_over, read_after, read_lines, key_text}
 
 pub entry_no_parts : (keys : List (List ℕ)) (n : ℕ) (line : List ℕ) → line_parts line ≡ None → entry_of keys n line ≡ Err (fault_at n BadLine)
 unfolding entry_of
@@ -46,6 +46,28 @@ after_all n keys entries = refl
 pub lines_none : (text : List ℕ) → length text ≡ 0 → lines text ≡ []
 lines_none [] h = refl
 lines_none (b ∷ text) h = absurd (omega arith)
+
+-- the lines of a text so far, and what they set
+pub record SoFar (text rest : List (List ℕ)) (n : ℕ) (keys : List (List ℕ)) (entries : List Entry) : Type 0 where
+  pub before : List (List ℕ)
+  pub cut : text ≡ before ++ rest
+  pub count : length before ≡ n
+  pub read : (more : List (List ℕ)) → read_lines (before ++ more) ≡ read_after n keys entries more
+
+pub none_read : (text : List (List ℕ)) → SoFar text text 0 [] []
+none_read text = record { before = []; cut = refl; count = refl; read = λ more. refl }
+
+pub one_read : (text all rest : List (List ℕ)) (line : List ℕ) (n : ℕ) (keys keys_after : List (List ℕ)) (entries after : List Entry) → all ≡ line ∷ rest → SoFar text all n keys entries →
+    ((more : List (List ℕ)) → read_after n keys entries (line ∷ more) ≡ read_after (n + 1) keys_after after more) → SoFar text rest (n + 1) keys_after after
+one_read text all rest line n keys keys_after entries after is s next = record {
+  before = s.before ++ line ∷ [];
+  cut = s.cut ∙ ap (λ (x : List (List ℕ)). s.before ++ x) is ∙ sym (append_assoc s.before (line ∷ []) rest);
+  count = length-append s.before (line ∷ []) ∙ ap (λ k. k + 1) s.count;
+  read = λ more. ap read_lines (append_assoc s.before (line ∷ []) more) ∙ s.read (line ∷ more) ∙ next more;
+}
+
+pub rest_read : (text rest : List (List ℕ)) (n : ℕ) (keys : List (List ℕ)) (entries : List Entry) → SoFar text rest n keys entries → read_lines text ≡ read_after n keys entries rest
+rest_read text rest n keys entries s = ap read_lines s.cut ∙ s.read rest
 
 -- what fails so that another fails by it
 pub fails_after : {X Y : Type 0} (kind : ConfigFaultKind) (fault : ConfigFault) (r : Result X ConfigFault) (s : Result Y ConfigFault) → (r ≡ Err fault → s ≡ Err fault) →

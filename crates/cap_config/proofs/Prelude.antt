@@ -1,6 +1,6 @@
 -- What the proofs here take from elsewhere.
 pub use Rattle.std.proofs.Common.{Bool, Err, List, None, Ok, Option, Result, Some, [], add-one, ap, append_assoc, arith, cond, drop, drop-cons, eqb, false, get_or, inl, inr, leb, length, length-append, length-take-le, ltb, max, min, nat_cmp, not, refl, replicate, rules, subst, suc, sym, take, tests, true, zero, ℕ, ◌++◌, ◌+◌, ◌-◌, ◌<◌, ◌∙◌, ◌∷◌, ◌≡◌, ◌≤◌}
-pub use Rattle.std.proofs.Math.Seq.{take-append-add, take-append_seam}
+pub use Rattle.std.proofs.Math.Seq.{get_or-append_seam, take-append-add, take-append_seam}
 pub use Rattle.std.proofs.lemmas.Bool.{eqb-true, false_from_ne_true, not-false, not-true, or_parts}
 pub use Rattle.std.proofs.lemmas.Bool.Decides.{nat_tests}
 pub use Rattle.std.proofs.lemmas.Iterator.Consumers.{nth_from_yields_List}
@@ -14,7 +14,7 @@ pub use Rattle.std.proofs.lemmas.List.Splits.{length-slice_split}
 pub use Rattle.std.proofs.lemmas.List.Sums.{AllPass-from_list_all, sum_by-append, sum_by-cons, sum_by_more}
 pub use Rattle.std.proofs.lemmas.Map.Text.{btree_map_updates_str, hash_map_updates_str}
 pub use Rattle.std.proofs.lemmas.Option.{same_Some, some_pair_parts}
-pub use Rattle.std.proofs.lemmas.Result.{IfOk-weaker, err_from_is_err_and}
+pub use Rattle.std.proofs.lemmas.Result.{IfErr-weaker, IfOk-weaker, err_from_is_err_and}
 pub use Rattle.std.proofs.lemmas.Slice.{take-put_mid}
 pub use Rattle.std.proofs.lemmas.Slice.Eq.{bytes_eq-Decides}
 pub use Rattle.std.proofs.lemmas.Str.{IsUtf8-from_ascii}
@@ -61,12 +61,12 @@ unfoldable pub use Rattle.cap_base.specs.properties.Tests.{allocation_line, line
 pub use Rattle.cap_base.specs.properties.Values.{are_new, as_amounts, as_names, digits_max, in_brackets, is_name_under, is_next, pieces_of, value_of}
 unfoldable pub use Rattle.cap_base.specs.properties.Values.{amounts_in, amounts_of, name_under, names_for, names_of, number_within, resource, state_of, value_at}
 pub use Rattle.cap_config.specs.Bounds.{are_bounded, are_under, has_each, is_bounded, is_kept, most_of}
-pub use Rattle.cap_config.specs.Details.{added_below, capped, limit_of, missing_from, missing_or, missing_path, over_some}
-unfoldable pub use Rattle.cap_config.specs.Details.{over_own}
+pub use Rattle.cap_config.specs.Details.{added_below, capped, detail_after, entries_in, fault_alone, limit_of, line_detail, missing_from, missing_or, missing_path, over_some, whole_detail}
+unfoldable pub use Rattle.cap_config.specs.Details.{detail_at, detail_in, over_own}
+pub use Rattle.cap_config.specs.declared.detail.DetailedFault.{DetailedFault}
 pub use Rattle.cap_config.specs.Index.{FindsAll, entry_at, pointed_entry}
 pub use Rattle.cap_config.specs.Laws.{FaultsAreInLines, FaultsAreOfText, HasAmounts, HasListed, LinesAreFew, QueueHasAmounts, SettingsHaveAmounts}
-pub use Rattle.cap_config.specs.LineKeys.{pieces, shows}
-unfoldable pub use Rattle.cap_config.specs.LineKeys.{first_with, nth_line}
+unfoldable pub use Rattle.cap_config.specs.LineKeys.{nth_line}
 pub use Rattle.cap_config.specs.TreeLaws.{SettingsAreListed}
 pub use Rattle.cap_text.proofs.Cuts.{cut_shorter, rest_all, split_cut, split_uncut}
 pub use Rattle.cap_text.specs.Numbers.{number_of}

@@ -1,39 +1,50 @@
--- What there is to say of a fault beyond its line and its kind.
-use Rattle.std.specs.Prelude.{ℕ, ◌-◌, ◌^◌, List, [], ◌∷◌, find, Option, Some, None, Bool, true, false, ◌==◌, min, nat_lt, if◌then◌else◌, Result, Ok, Err}
+-- What a fault is about, beyond its line and its kind.
+use Rattle.std.specs.Prelude.{ℕ, ◌-◌, ◌^◌, List, [], ◌∷◌, find, take, slice_index_or, Option, Some, None, Bool, true, false, min, if◌then◌else◌, Result, Ok, Err}
 use Rattle.std.specs.Str.Lines.{lines}
 use Rattle.cap_vector.specs.Vector.{by_amount}
 use Rattle.cap_base.specs.Limits.{resources}
 use Rattle.cap_base.specs.Texts.{is_text}
 use Rattle.cap_config.specs.declared.detail.Detail.{Detail}
 use Rattle.cap_config.specs.declared.detail.Detail.TheVariants.{Plain, Earlier, Form, Unlisted, Over}
+use Rattle.cap_config.specs.declared.detail.DetailedFault.{DetailedFault}
 use Rattle.cap_config.specs.declared.detail.Limit.{Limit}
 use Rattle.cap_config.specs.declared.detail.Limit.TheVariants.{MaximumAllocation, OwnMaximum, InheritedMaximum, MaximumAbove, OwnCapacity}
 use Rattle.cap_base.specs.declared.properties.entry.Entry.{Entry}
 use Rattle.cap_base.specs.declared.properties.key.Key.{Key}
 use Rattle.cap_base.specs.declared.properties.value.Value.{Value}
 use Rattle.cap_base.specs.declared.properties.value.Value.TheVariants.{Names, Amounts}
+use Rattle.cap_base.specs.declared.properties.setting.Setting.{Setting}
 use Rattle.cap_base.specs.declared.properties.setting.Setting.TheVariants.{MaximumCapacity}
 use Rattle.cap_base.specs.declared.properties.fault.ConfigFault.{ConfigFault}
 use Rattle.cap_base.specs.declared.properties.fault.ConfigFaultKind.{ConfigFaultKind}
-use Rattle.cap_base.specs.declared.properties.fault.ConfigFaultKind.TheVariants.{Repeated, BadValue, NoSuchQueue, GuaranteeOverMaximum, OverParent}
-use Rattle.cap_base.specs.properties.Entries.{read_lines}
+use Rattle.cap_base.specs.declared.properties.fault.ConfigFaultKind.TheVariants.{Repeated, BadValue, NoSuchQueue, GuaranteeOverMaximum, OverParent, NoMemory}
+use Rattle.cap_base.specs.properties.Entries.{key_text, read_lines}
+use Rattle.cap_base.specs.properties.Fault.{fault_at}
 use Rattle.std.specs.Str.{bytes_eq}
 use Rattle.cap_base.specs.properties.Keys.{key_of, parts_at_last_dot, root}
-use Rattle.cap_config.specs.LineKeys.{line_key, first_with}
 use Rattle.cap_base.specs.properties.Queues.{above, amounts_at, entry_for, guaranteed, is_below, maximum}
-use Rattle.cap_base.specs.properties.Tests.{exceeds, minimum_allocation, maximum_allocation, sum_below}
+use Rattle.cap_base.specs.properties.Tests.{cluster_entry, is_astray, is_over_maximum, is_over_parent, minimum_allocation, maximum_allocation, sum_below}
 
--- amounts over a limit, where one of them is
-unfoldable pub over : Limit → List ℕ → List ℕ → Detail
-over limit amounts most = if exceeds amounts most then Over limit amounts most else Plain
+-- a fault alone, without its detail
+abbrev pub fault_alone : {X : Type 0} → Result X DetailedFault → Result X ConfigFault
+fault_alone (Ok x) = Ok x
+fault_alone (Err found) = Err found.fault
 
+abbrev pub detailed : ℕ → ConfigFaultKind → Detail → DetailedFault
+detailed line kind detail = record { fault = fault_at line kind; detail = detail }
+
+-- want of memory
+abbrev pub no_room : DetailedFault
+no_room = detailed 0 NoMemory Plain
+
+-- amounts over a limit, if there is one
 abbrev pub over_some : Limit → List ℕ → Option (List ℕ) → Detail
-over_some limit amounts (Some most) = over limit amounts most
+over_some limit amounts (Some most) = Over limit amounts most
 over_some limit amounts None = Plain
 
 -- a minimum allocation over the maximum allocation
 unfoldable pub allocation_detail : List Entry → Detail
-allocation_detail entries = over MaximumAllocation (minimum_allocation entries) (maximum_allocation entries)
+allocation_detail entries = Over MaximumAllocation (minimum_allocation entries) (maximum_allocation entries)
 
 -- the first path, from the top on, that is not `root` and not listed by the queue above it: one of these paths above `path`, or else the one before
 abbrev pub missing_or : Bool → List ℕ → Option (List ℕ) → Option (List ℕ)
@@ -82,56 +93,53 @@ abbrev pub added_below : List Entry → List ℕ → List (List ℕ) → List �
 added_below entries path names = by_amount resources (λ k. capped (sum_below entries path names k))
 
 abbrev pub over_capacity : List Entry → List ℕ → List (List ℕ) → Detail
-over_capacity entries path names = over OwnCapacity (added_below entries path names) (guaranteed entries path)
+over_capacity entries path names = Over OwnCapacity (added_below entries path names) (guaranteed entries path)
 
 abbrev pub over_parent : List Entry → Option (List ℕ) → Value → Detail
 over_parent entries (Some path) (Amounts amounts) = over_above entries amounts (parts_at_last_dot path)
 over_parent entries (Some path) (Names names) = over_capacity entries path names
 over_parent entries queue value = Plain
 
--- what a fault is about at an entry of a text whose lines have no fault of their own
-abbrev pub entry_detail : List Entry → Entry → ConfigFaultKind → Detail
-entry_detail entries entry NoSuchQueue = unlisted entries entry.queue
-entry_detail entries entry GuaranteeOverMaximum = over_maximum entries entry.queue entry.value
-entry_detail entries entry OverParent = over_parent entries entry.queue entry.value
-entry_detail entries entry _ = Plain
+-- what the entry is about that was found
+abbrev pub of_entry : (Entry → Detail) → Option Entry → Detail
+of_entry about (Some entry) = about entry
+of_entry about None = Plain
 
-abbrev pub detail_on : List Entry → Option Entry → ConfigFaultKind → Detail
-detail_on entries (Some entry) kind = entry_detail entries entry kind
-detail_on entries None kind = Plain
+-- what a fault of the whole text is about: the first entry that fails the test, or the bounds of a container
+abbrev pub whole_detail : List Entry → ConfigFaultKind → Detail
+whole_detail entries BadValue = allocation_detail entries
+whole_detail entries NoSuchQueue = of_entry (λ entry. unlisted entries entry.queue) (find (is_astray entries) entries)
+whole_detail entries GuaranteeOverMaximum = of_entry (λ entry. over_maximum entries entry.queue entry.value) (find (is_over_maximum entries) entries)
+whole_detail entries OverParent = of_entry (λ entry. over_parent entries entry.queue entry.value) (find (is_over_parent entries) entries)
+whole_detail entries _ = Plain
 
-abbrev pub entry_on : List Entry → ℕ → Option Entry
-entry_on entries line = find (λ entry. entry.line == line) entries
+-- the entry that sets the property of a key
+abbrev pub set_by : List Entry → Option (List ℕ) → Setting → Option Entry
+set_by entries (Some path) setting = entry_for entries setting path
+set_by entries None setting = cluster_entry entries setting
 
-abbrev pub whole_detail : List Entry → ℕ → ConfigFaultKind → Detail
-whole_detail entries line BadValue = allocation_detail entries
-whole_detail entries line kind = detail_on entries (entry_on entries line) kind
+-- what a fault of a line is about, after lines that set these entries: the one with the same key, or the property of its key
+abbrev pub earlier : List Entry → Key → Detail
+earlier entries key = of_entry (λ entry. Earlier entry.line) (set_by entries key.queue key.setting)
 
--- what a fault of a line of its own is about
-abbrev pub earlier_of : ℕ → Option ℕ → Detail
-earlier_of line (Some first) = if nat_lt first line then Earlier first else Plain
-earlier_of line None = Plain
+abbrev pub line_detail : List Entry → ConfigFaultKind → Option Key → Detail
+line_detail entries Repeated (Some key) = earlier entries key
+line_detail entries BadValue (Some key) = Form key.setting
+line_detail entries _ key = Plain
 
-abbrev pub earlier : List ℕ → ℕ → List ℕ → Detail
-earlier text line key = earlier_of line (first_with text key)
+abbrev pub entries_in : Result (List Entry) ConfigFault → List Entry
+entries_in (Ok entries) = entries
+entries_in (Err fault) = []
 
-abbrev pub form_of : Option Key → Detail
-form_of (Some key) = Form key.setting
-form_of None = Plain
+-- what a fault is about at its line, after what the lines before set
+unfoldable pub detail_at : List (List ℕ) → ConfigFault → Detail
+detail_at lines fault =
+    line_detail (entries_in (read_lines (take (fault.line - 1) lines))) fault.kind (key_of (key_text (slice_index_or lines (fault.line - 1) [])))
 
-abbrev pub key_detail : List ℕ → ℕ → ConfigFaultKind → List ℕ → Detail
-key_detail text line Repeated key = earlier text line key
-key_detail text line BadValue key = form_of (key_of key)
-key_detail text line _ key = Plain
+abbrev pub detail_after : List (List ℕ) → ConfigFault → Result (List Entry) ConfigFault → Detail
+detail_after lines fault (Ok entries) = whole_detail entries fault.kind
+detail_after lines fault (Err other) = detail_at lines fault
 
-abbrev pub line_detail : List ℕ → ℕ → ConfigFaultKind → Option (List ℕ) → Detail
-line_detail text line kind (Some key) = key_detail text line kind key
-line_detail text line kind None = Plain
-
-abbrev pub detail_after : List ℕ → ConfigFault → Result (List Entry) ConfigFault → Detail
-detail_after text fault (Ok entries) = whole_detail entries fault.line fault.kind
-detail_after text fault (Err other) = line_detail text fault.line fault.kind (line_key text fault.line)
-
--- what there is to say of a fault of a text
+-- what the first fault of a text is about
 unfoldable pub detail_in : List ℕ → ConfigFault → Detail
-detail_in text fault = detail_after text fault (read_lines (lines text))
+detail_in text fault = detail_after (lines text) fault (read_lines (lines text))

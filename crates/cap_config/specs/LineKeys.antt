@@ -1,8 +1,6 @@
 -- The key that a line shows, whatever its bytes are.
-use Rattle.std.specs.Prelude.{ℕ, ◌+◌, ◌-◌, List, length, Option, Some, None, Bool, false, ◌&&◌, ◌==◌, nat_lt, slice_get, if◌then◌else◌}
-use Rattle.std.specs.List.{list_all, position, slice_split}
-use Rattle.std.specs.Option.{option_map}
-use Rattle.std.specs.Str.{bytes_eq}
+use Rattle.std.specs.Prelude.{ℕ, ◌-◌, List, length, Option, Some, None, ◌&&◌, ◌==◌, nat_lt, slice_get, if◌then◌else◌}
+use Rattle.std.specs.List.{list_all, slice_split}
 use Rattle.cap_text.specs.Pieces.{parts_at, trimmed_bytes}
 use Rattle.cap_base.specs.properties.Entries.{is_passed_over, is_printable}
 
@@ -33,15 +31,3 @@ key_or_none None = None
 -- the key that the line of a number in a text shows
 unfoldable pub line_key : List ℕ → ℕ → Option (List ℕ)
 line_key text n = key_or_none (nth_line text n)
-
--- whether a line shows this key
-abbrev pub is_shown : Option (List ℕ) → List ℕ → Bool
-is_shown (Some shown) key = bytes_eq shown key
-is_shown None key = false
-
-abbrev pub shows : List ℕ → List ℕ → Bool
-shows key line = is_shown (key_shown line) key
-
--- the number of the first line with this key
-unfoldable pub first_with : List ℕ → List ℕ → Option ℕ
-first_with text key = option_map (λ before. before + 1) (position (shows key) (pieces text))

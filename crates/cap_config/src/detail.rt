@@ -1,22 +1,28 @@
-//! What a fault is about, beyond its line and its kind: it is found in the text again (`detail_of`, `Detail`).
-ghost use Rattle.std.specs.Prelude.{◌≡◌, IfOk};
+//! A fault and what it is about, beyond its line and its kind (`DetailedFault`, `Detail`).
+ghost use Rattle.std.specs.Prelude.{◌≡◌};
 ghost use Rattle.std.specs.Option.{option_map, option_copied};
 ghost use Rattle.cap_config.specs.Index.{IsIndex};
-ghost use Rattle.cap_base.specs.properties.Keys.{key_of, parts_at_last_dot};
-ghost use Rattle.cap_config.specs.LineKeys.{line_key};
-ghost use Rattle.cap_config.specs.Details.{detail_in, line_detail, key_detail, earlier, form_of, limit_of, whole_detail, entry_on, entry_detail, allocation_detail, unlisted, unlisted_at, over_maximum, over_own, over_parent, over_above, over_capacity, over, over_some};
+ghost use Rattle.cap_base.specs.properties.Keys.{parts_at_last_dot};
+ghost use Rattle.cap_base.specs.properties.Queues.{entry_for, is_entry_for};
+ghost use Rattle.cap_config.specs.Details.{detailed, earlier, set_by, allocation_detail, unlisted, unlisted_at, over_maximum, over_own, limit_of, over_parent, over_above, over_capacity, over_some};
 
 use crate::allocation::{maximum_allocation, minimum_allocation};
-use crate::first_pass::read_lines;
-use crate::guarantees::{added_below, exceeds};
-use crate::index::{Index, entry_at, index_of};
-use crate::key::{key_of, split_last_dot};
-use crate::line_keys::{first_with, line_key};
+use crate::guarantees::added_below;
+use crate::index::{Index, entry_at, path_for};
+use crate::key::split_last_dot;
 use crate::queues::{amounts_at, guaranteed, maximum, missing_path};
-use cap_base::properties::{ConfigFault, ConfigFaultKind, Entry, Setting, Value};
+use crate::second_pass::cluster_entry;
+use cap_base::properties::{ConfigFault, ConfigFaultKind, Entry, Key, Setting, Value};
 use cap_base::{PathText, RESOURCES, ShortText};
 use cap_vector::Resource;
-use std::alloc::{AllocError, Global};
+use std::alloc::{AllocError, AllocFailed};
+
+/// The first fault of a text, and what it is about.
+#[derive(Clone, Copy, Debug)]
+pub struct DetailedFault {
+    pub fault: ConfigFault,
+    pub detail: Detail,
+}
 
 /// What there is to say of a fault beyond its line and its kind.
 #[derive(Clone, Copy, Debug)]
@@ -52,123 +58,99 @@ pub enum Limit {
     OwnCapacity,
 }
 
-/// What there is to say of a fault of these property lines: it is found in the text again, and is `Detail::Plain` where the
-/// fault is of another text. The only error is an allocation that fails.
-#[tactic(auto, unfolding(crate::specs::Details::detail_in))]
-pub fn detail_of(alloc: Global, text: &[u8], fault: &ConfigFault) -> Result<Detail, AllocError>
-    ensures { IfOk result (λ detail. detail ≡ detail_in text.now fault.now) }
+/// The fault of this kind at this line, with its detail.
+pub fn detailed(line: usize, kind: ConfigFaultKind, detail: Detail) -> DetailedFault
+    ensures { result ≡ detailed line kind detail }
 {
-    match read_lines(alloc, text) {
-        Ok(entries) => {
-            let index = index_of(alloc, &entries)?;
-            Ok(whole_detail(&index, fault.line, fault.kind))
+    DetailedFault {
+        fault: ConfigFault { line, kind },
+        detail,
+    }
+}
+
+impl From<AllocError> for DetailedFault {
+    ghost use Rattle.std.specs.Prelude.{◌≡◌};
+    ghost use Rattle.cap_config.specs.Details.{no_room};
+
+    ghost from_gives = { λ _ e. e ≡ no_room };
+
+    fn from(e: AllocError) -> DetailedFault {
+        DetailedFault {
+            fault: ConfigFault::from(e),
+            detail: Detail::Plain,
         }
-        Err(other) => match other.kind {
-            ConfigFaultKind::NoMemory => Err(AllocError),
-            _ => Ok(line_detail(text, fault.line, fault.kind)),
-        },
     }
 }
 
-/// What a fault of one line by itself is about.
-fn line_detail(text: &[u8], line: usize, kind: ConfigFaultKind) -> Detail
-    ensures { result ≡ line_detail text.now line kind (line_key text.now line) }
+impl<T: Drop> From<AllocFailed<T>> for DetailedFault {
+    ghost use Rattle.std.specs.Prelude.{◌≡◌};
+    ghost use Rattle.cap_config.specs.Details.{no_room};
+
+    ghost from_gives = { λ _ e. e ≡ no_room };
+
+    fn from(e: AllocFailed<T>) -> DetailedFault {
+        DetailedFault {
+            fault: ConfigFault::from(e),
+            detail: Detail::Plain,
+        }
+    }
+}
+
+/// The line among the entries so far that sets the property of this key.
+pub fn earlier(entries: &[Entry], key: &Key) -> Detail
+    ensures { result ≡ earlier entries.now key.now }
 {
-    match line_key(text, line) {
-        Some(key) => key_detail(text, line, kind, key.as_bytes()),
+    match set_by(entries, key) {
+        Some(entry) => Detail::Earlier(entry.line),
         None => Detail::Plain,
     }
 }
 
-fn key_detail(text: &[u8], line: usize, kind: ConfigFaultKind, key: &[u8]) -> Detail
-    ensures { result ≡ key_detail text.now line kind key.now }
+/// The entry that sets the property of this key.
+fn set_by<'e, 't>(entries: &'e [Entry<'t>], key: &Key) -> Option<&'e Entry<'t>>
+    ensures { option_copied result ≡ set_by entries.now key.now.queue key.now.setting }
 {
-    match kind {
-        ConfigFaultKind::Repeated => earlier(text, line, key),
-        ConfigFaultKind::BadValue => form_of(key),
-        _ => Detail::Plain,
+    match &key.queue {
+        Some(path) => entry_for(entries, key.setting, path.as_bytes()),
+        None => cluster_entry(entries, key.setting),
     }
 }
 
-fn earlier(text: &[u8], line: usize, key: &[u8]) -> Detail
-    ensures { result ≡ earlier text.now line key.now }
+/// The entry that sets a property for the queue at `path`.
+#[tactic(auto, unfolding(cap_base::specs::properties::Queues::entry_for))]
+fn entry_for<'e, 't>(
+    entries: &'e [Entry<'t>],
+    setting: Setting,
+    path: &[u8],
+) -> Option<&'e Entry<'t>>
+    ensures { option_copied result ≡ entry_for entries.now setting path.now }
 {
-    match first_with(text, key) {
-        Some(first) if first < line => Detail::Earlier(first),
-        _ => Detail::Plain,
-    }
+    entries.iter().find(|entry| is_entry_for(entry, setting, path))
 }
 
-fn form_of(key: &[u8]) -> Detail
-    ensures { result ≡ form_of (key_of key.now) }
+/// Whether an entry sets this property for the queue at `path`.
+fn is_entry_for(entry: &Entry, setting: Setting, path: &[u8]) -> bool
+    ensures { result ≡ is_entry_for setting path.now entry.now }
 {
-    match key_of(key) {
-        Some(key) => Detail::Form(key.setting),
-        None => Detail::Plain,
-    }
-}
-
-/// What a fault of the whole text is about.
-fn whole_detail(index: &Index, line: usize, kind: ConfigFaultKind) -> Detail
-    requires { IsIndex index.now }
-    ensures { result ≡ whole_detail index.now.entries.now line kind }
-{
-    if let ConfigFaultKind::BadValue = kind {
-        return allocation_detail(index.entries);
-    }
-    match entry_on(index.entries, line) {
-        Some(entry) => entry_detail(index, entry, kind),
-        None => Detail::Plain,
-    }
-}
-
-/// The entry of a line.
-fn entry_on<'e, 't>(entries: &'e [Entry<'t>], line: usize) -> Option<&'e Entry<'t>>
-    ensures { option_copied result ≡ entry_on entries.now line }
-{
-    entries.iter().find(|entry| entry.line == line)
-}
-
-fn entry_detail(index: &Index, entry: &Entry, kind: ConfigFaultKind) -> Detail
-    requires { IsIndex index.now }
-    ensures { result ≡ entry_detail index.now.entries.now entry.now kind }
-{
-    match kind {
-        ConfigFaultKind::NoSuchQueue => unlisted(index, &entry.queue),
-        ConfigFaultKind::GuaranteeOverMaximum => over_maximum(index, entry),
-        ConfigFaultKind::OverParent => over_parent(index, entry),
-        _ => Detail::Plain,
+    match path_for(entry, setting) {
+        Some(queue) => queue == path,
+        None => false,
     }
 }
 
 /// A minimum allocation over the maximum allocation.
 #[tactic(auto, unfolding(crate::specs::Details::allocation_detail))]
-fn allocation_detail(entries: &[Entry]) -> Detail
+pub fn allocation_detail(entries: &[Entry]) -> Detail
     ensures { result ≡ allocation_detail entries.now }
 {
-    over(
-        Limit::MaximumAllocation,
-        minimum_allocation(entries),
-        maximum_allocation(entries),
-    )
-}
-
-/// Amounts over a limit, where one of them is.
-#[tactic(auto, unfolding(crate::specs::Details::over))]
-fn over(limit: Limit, amounts: [u64; RESOURCES], most: [u64; RESOURCES]) -> Detail
-    ensures { result ≡ over limit amounts most }
-{
-    if exceeds(amounts, most) {
-        Detail::Over {
-            limit,
-            amounts,
-            most,
-        }
-    } else {
-        Detail::Plain
+    Detail::Over {
+        limit: Limit::MaximumAllocation,
+        amounts: minimum_allocation(entries),
+        most: maximum_allocation(entries),
     }
 }
 
+/// Amounts over a limit, if there is one.
 fn over_some(
     limit: Limit,
     amounts: &Resource<RESOURCES>,
@@ -177,13 +159,17 @@ fn over_some(
     ensures { result ≡ over_some limit amounts.now most }
 {
     match most {
-        Some(most) => over(limit, amounts.amounts(), most.amounts()),
+        Some(most) => Detail::Over {
+            limit,
+            amounts: amounts.amounts(),
+            most: most.amounts(),
+        },
         None => Detail::Plain,
     }
 }
 
 /// The queue that is not listed on the way to a queue.
-fn unlisted(index: &Index, queue: &Option<PathText>) -> Detail
+pub fn unlisted(index: &Index, queue: &Option<PathText>) -> Detail
     requires { IsIndex index.now }
     ensures { result ≡ unlisted index.now.entries.now queue.now }
 {
@@ -207,7 +193,7 @@ fn unlisted_at(path: Option<&[u8]>) -> Detail
 }
 
 /// A capacity over the maximum capacity of its queue.
-fn over_maximum(index: &Index, entry: &Entry) -> Detail
+pub fn over_maximum(index: &Index, entry: &Entry) -> Detail
     requires { IsIndex index.now }
     ensures { result ≡ over_maximum index.now.entries.now entry.now.queue entry.now.value }
 {
@@ -237,7 +223,7 @@ fn limit_of(own: Option<Resource<RESOURCES>>) -> Limit
 }
 
 /// A maximum capacity over that of the queue above, or capacities that add up to more than that of the queue above.
-fn over_parent(index: &Index, entry: &Entry) -> Detail
+pub fn over_parent(index: &Index, entry: &Entry) -> Detail
     requires { IsIndex index.now }
     ensures { result ≡ over_parent index.now.entries.now entry.now.queue entry.now.value }
 {
@@ -262,9 +248,9 @@ fn over_capacity(index: &Index, path: &PathText, names: &[ShortText]) -> Detail
     requires { IsIndex index.now }
     ensures { result ≡ over_capacity index.now.entries.now path.now names.now }
 {
-    over(
-        Limit::OwnCapacity,
-        added_below(index, path, names),
-        guaranteed(index, path.as_bytes()).amounts(),
-    )
+    Detail::Over {
+        limit: Limit::OwnCapacity,
+        amounts: added_below(index, path, names),
+        most: guaranteed(index, path.as_bytes()).amounts(),
+    }
 }

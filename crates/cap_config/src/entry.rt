@@ -1,9 +1,8 @@
-//! The line of an entry that was looked for (`line_of`), and a fault at a line (`fault_at`).
+//! The line of an entry that was looked for (`line_of`).
 ghost use Rattle.std.specs.Prelude.{◌≡◌};
 ghost use Rattle.std.specs.Option.{option_map, option_copied};
-ghost use Rattle.cap_base.specs.properties.Fault.{fault_at};
 
-use cap_base::properties::{ConfigFault, ConfigFaultKind, Entry};
+use cap_base::properties::Entry;
 
 /// The line of an entry that was found.
 pub fn line_of(entry: Option<&Entry>) -> Option<usize>
@@ -13,11 +12,4 @@ pub fn line_of(entry: Option<&Entry>) -> Option<usize>
         Some(entry) => Some(entry.line),
         None => None,
     }
-}
-
-/// The fault of this kind at this line.
-pub fn fault_at(line: usize, kind: ConfigFaultKind) -> ConfigFault
-    ensures { result ≡ fault_at line kind }
-{
-    ConfigFault { line, kind }
 }

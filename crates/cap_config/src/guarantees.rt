@@ -1,13 +1,13 @@
 //! The tests of capacities and maximum capacities, each of a queue's own and of those of the queue above.
-ghost use Rattle.std.specs.Prelude.{◌≡◌, ◌+◌};
+ghost use Rattle.std.specs.Prelude.{◌≡◌, ◌+◌, find};
+ghost use Rattle.std.specs.Option.{option_copied};
 ghost use Rattle.cap_vector.specs.Vector.{amount, by_amount};
 ghost use Rattle.cap_base.specs.Limits.{resources};
 ghost use Rattle.cap_config.specs.Details.{added_below, capped};
 ghost use Rattle.cap_config.specs.Index.{IsIndex};
-ghost use Rattle.cap_base.specs.properties.Tests.{exceeds, exceeds_limit, is_over_limit, is_over_maximum, over_maximum_line, is_over_parts, is_overspent, is_over_parent, over_parent_line};
+ghost use Rattle.cap_base.specs.properties.Tests.{exceeds, exceeds_limit, is_over_limit, is_over_maximum, is_over_parts, is_overspent, is_over_parent};
 ghost use Rattle.cap_base.specs.properties.Keys.{parts_at_last_dot};
 
-use crate::entry::line_of;
 use crate::index::{Index, child_bytes};
 use crate::key::split_last_dot;
 use crate::queues::{guaranteed, is_root, maximum};
@@ -16,18 +16,14 @@ use cap_base::properties::{Entry, Setting, Value};
 use cap_base::{PathText, RESOURCES, ShortText};
 use cap_vector::Resource;
 
-/// The first line that guarantees a queue more than its maximum capacity, own or inherited.
-#[tactic(auto, unfolding(cap_base::specs::properties::Tests::line_where))]
-pub fn over_maximum_line(index: &Index) -> Option<usize>
+/// The first entry that guarantees a queue more than its maximum capacity, own or inherited.
+pub fn over_maximum_entry<'e, 't>(index: &Index<'e, 't>) -> Option<&'e Entry<'t>>
     requires { IsIndex index.now }
-    ensures { result ≡ over_maximum_line index.now.entries.now }
+    ensures { option_copied result
+        ≡ find (is_over_maximum index.now.entries.now) index.now.entries.now }
 {
-    line_of(
-        index
-            .entries
-            .iter()
-            .find(|entry| is_over_maximum(index, entry)),
-    )
+    let mut entries = index.entries.iter();
+    entries.find(|entry| is_over_maximum(index, entry))
 }
 
 fn is_over_maximum(index: &Index, entry: &Entry) -> bool
@@ -59,7 +55,7 @@ fn exceeds_limit(amounts: &Resource<RESOURCES>, limit: Option<Resource<RESOURCES
 }
 
 /// Whether an amount is more than the other's.
-pub fn exceeds(a: [u64; RESOURCES], b: [u64; RESOURCES]) -> bool
+fn exceeds(a: [u64; RESOURCES], b: [u64; RESOURCES]) -> bool
     ensures { result ≡ exceeds a b }
 {
     for k in 0..RESOURCES {
@@ -70,19 +66,15 @@ pub fn exceeds(a: [u64; RESOURCES], b: [u64; RESOURCES]) -> bool
     false
 }
 
-/// The first line that sets a maximum capacity over that of the queue above, or lists queues below one other than root
+/// The first entry that sets a maximum capacity over that of the queue above, or lists queues below one other than root
 /// whose capacities add up to more than its own.
-#[tactic(auto, unfolding(cap_base::specs::properties::Tests::line_where))]
-pub fn over_parent_line(index: &Index) -> Option<usize>
+pub fn over_parent_entry<'e, 't>(index: &Index<'e, 't>) -> Option<&'e Entry<'t>>
     requires { IsIndex index.now }
-    ensures { result ≡ over_parent_line index.now.entries.now }
+    ensures { option_copied result
+        ≡ find (is_over_parent index.now.entries.now) index.now.entries.now }
 {
-    line_of(
-        index
-            .entries
-            .iter()
-            .find(|entry| is_over_parent(index, entry)),
-    )
+    let mut entries = index.entries.iter();
+    entries.find(|entry| is_over_parent(index, entry))
 }
 
 fn is_over_parent(index: &Index, entry: &Entry) -> bool

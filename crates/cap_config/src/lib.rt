@@ -21,6 +21,6 @@ mod value;
 
 pub use cap_base::properties::{ConfigFault, ConfigFaultKind, Setting};
 pub use cap_base::{Config, QueueRow};
-pub use detail::{Detail, Limit, detail_of};
+pub use detail::{Detail, DetailedFault, Limit};
 pub use line_keys::line_key;
-pub use reading::read_config;
+pub use reading::{read_config, read_detailed};

@@ -1,8 +1,8 @@
-//! The key that a line shows, whatever its bytes are (`line_key`), and the first line that shows it (`first_with`).
+//! The key that a line shows, whatever its bytes are (`line_key`).
 ghost use Rattle.std.specs.Prelude.{◌≡◌};
 ghost use Rattle.std.specs.List.{list_all};
 ghost use Rattle.std.specs.Option.{option_map};
-ghost use Rattle.cap_config.specs.LineKeys.{shown, shown_first, key_shown, nth_line, line_key, shows, is_shown, first_with};
+ghost use Rattle.cap_config.specs.LineKeys.{shown, shown_first, key_shown, nth_line, line_key};
 ghost use Rattle.cap_text.specs.Pieces.{parts_at};
 
 use crate::first_pass::{all_printable, is_passed_over};
@@ -58,23 +58,4 @@ fn shown(bytes: &[u8]) -> Option<&str>
         unreachable!()
     };
     Some(shown)
-}
-
-/// The number of the first line that shows this key.
-#[tactic(auto, unfolding(crate::specs::LineKeys::first_with))]
-pub fn first_with(text: &[u8], key: &[u8]) -> Option<usize>
-    ensures { result ≡ first_with text.now key.now }
-{
-    let mut lines = text.split(|byte| *byte == b'\n');
-    let before = lines.position(|line| shows(key, line));
-    before.map(|before| before + 1)
-}
-
-fn shows(key: &[u8], line: &[u8]) -> bool
-    ensures { result ≡ shows key.now line.now }
-{
-    match key_shown(line) {
-        Some(shown) => shown.as_bytes() == key,
-        None => false,
-    }
 }

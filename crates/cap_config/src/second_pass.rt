@@ -1,59 +1,75 @@
 //! The tests over the whole text, in the order of their faults, each at its least line (`whole_fault`).
-ghost use Rattle.std.specs.Prelude.{◌≡◌};
-ghost use Rattle.std.specs.Option.{option_copied};
+ghost use Rattle.std.specs.Prelude.{◌≡◌, find, IfSome};
+ghost use Rattle.std.specs.Option.{option_copied, option_map};
+ghost use Rattle.cap_config.specs.Details.{whole_detail};
 ghost use Rattle.cap_config.specs.Index.{IsIndex};
-ghost use Rattle.cap_base.specs.properties.Tests.{line_where, cluster_entry, number_or, line_or_zero, pair_line, lesser, allocation_line, lists_none, no_child_line, is_astray, no_such_queue_line, lists_deep, level, too_deep_line, listed_by, too_many_line, shape_fault, whole_fault};
+ghost use Rattle.cap_base.specs.properties.Tests.{line_where, cluster_entry, number_or, line_or_zero, pair_line, lesser, allocation_line, lists_none, no_child_line, is_astray, lists_deep, level, too_deep_line, listed_by, too_many_line, shape_fault, whole_fault};
 
-use crate::entry::{fault_at, line_of};
-use crate::guarantees::{over_maximum_line, over_parent_line};
+use crate::detail::{
+    Detail, DetailedFault, allocation_detail, detailed, over_maximum, over_parent, unlisted,
+};
+use crate::entry::line_of;
+use crate::guarantees::{over_maximum_entry, over_parent_entry};
 use crate::index::{Index, entry_at};
 use crate::key::ROOT;
 use crate::queues::{LEVELS_MAX, level, missing_path, number_or};
 use crate::setting::same_setting;
-use cap_base::properties::{ConfigFault, ConfigFaultKind, Entry, Setting, Value};
+use cap_base::properties::{ConfigFaultKind, Entry, Setting, Value};
 use cap_vector::AMOUNT_MAX;
 
 /// The greatest number of queues, root among them.
 const QUEUES_MAX: usize = 1024;
 
 /// The fault of the first test over the whole text that fails, at its least line.
-#[tactic(auto, unfolding(cap_base::specs::properties::Tests::whole_fault))]
-pub fn whole_fault(index: &Index) -> Option<ConfigFault>
+#[tactic(auto, unfolding(cap_base::specs::properties::Tests::whole_fault, cap_base::specs::properties::Tests::line_where))]
+pub fn whole_fault(index: &Index) -> Option<DetailedFault>
     requires { IsIndex index.now }
-    ensures { result ≡ whole_fault index.now.entries.now }
+    ensures fault { option_map (λ found. found.fault) result
+        ≡ whole_fault index.now.entries.now }
+    ensures detail { IfSome result
+        (λ found. found.detail ≡ whole_detail index.now.entries.now found.fault.kind) }
 {
-    if let Some(fault) = shape_fault(index) {
-        return Some(fault);
+    if let Some(found) = shape_fault(index) {
+        return Some(found);
     }
-    match over_parent_line(index) {
-        Some(line) => Some(fault_at(line, ConfigFaultKind::OverParent)),
+    match over_parent_entry(index) {
+        Some(entry) => {
+            let detail = over_parent(index, entry);
+            Some(detailed(entry.line, ConfigFaultKind::OverParent, detail))
+        }
         None => None,
     }
 }
 
 /// The first fault in the bounds of a container, in the shape of the tree and of a capacity over its maximum.
-#[tactic(auto, unfolding(cap_base::specs::properties::Tests::shape_fault))]
-fn shape_fault(index: &Index) -> Option<ConfigFault>
+#[tactic(auto, unfolding(cap_base::specs::properties::Tests::shape_fault, cap_base::specs::properties::Tests::line_where))]
+fn shape_fault(index: &Index) -> Option<DetailedFault>
     requires { IsIndex index.now }
-    ensures { result ≡ shape_fault index.now.entries.now }
+    ensures fault { option_map (λ found. found.fault) result
+        ≡ shape_fault index.now.entries.now }
+    ensures detail { IfSome result
+        (λ found. found.detail ≡ whole_detail index.now.entries.now found.fault.kind) }
 {
     if let Some(line) = allocation_line(index.entries) {
-        return Some(fault_at(line, ConfigFaultKind::BadValue));
+        let detail = allocation_detail(index.entries);
+        return Some(detailed(line, ConfigFaultKind::BadValue, detail));
     }
     if let Some(line) = no_child_line(index) {
-        return Some(fault_at(line, ConfigFaultKind::NoChild));
+        return Some(detailed(line, ConfigFaultKind::NoChild, Detail::Plain));
     }
-    if let Some(line) = no_such_queue_line(index) {
-        return Some(fault_at(line, ConfigFaultKind::NoSuchQueue));
+    if let Some(entry) = astray_entry(index) {
+        let detail = unlisted(index, &entry.queue);
+        return Some(detailed(entry.line, ConfigFaultKind::NoSuchQueue, detail));
     }
     if let Some(line) = too_deep_line(index.entries) {
-        return Some(fault_at(line, ConfigFaultKind::TooDeep));
+        return Some(detailed(line, ConfigFaultKind::TooDeep, Detail::Plain));
     }
     if let Some(line) = too_many_line(index.entries) {
-        return Some(fault_at(line, ConfigFaultKind::TooManyQueues));
+        return Some(detailed(line, ConfigFaultKind::TooManyQueues, Detail::Plain));
     }
-    if let Some(line) = over_maximum_line(index) {
-        return Some(fault_at(line, ConfigFaultKind::GuaranteeOverMaximum));
+    if let Some(entry) = over_maximum_entry(index) {
+        let detail = over_maximum(index, entry);
+        return Some(detailed(entry.line, ConfigFaultKind::GuaranteeOverMaximum, detail));
     }
     None
 }
@@ -157,13 +173,14 @@ fn lists_none(entry: &Entry) -> bool
     }
 }
 
-/// The first line for a queue that is not in the tree.
-#[tactic(auto, unfolding(cap_base::specs::properties::Tests::line_where))]
-fn no_such_queue_line(index: &Index) -> Option<usize>
+/// The first entry for a queue that is not in the tree.
+fn astray_entry<'e, 't>(index: &Index<'e, 't>) -> Option<&'e Entry<'t>>
     requires { IsIndex index.now }
-    ensures { result ≡ no_such_queue_line index.now.entries.now }
+    ensures { option_copied result
+        ≡ find (is_astray index.now.entries.now) index.now.entries.now }
 {
-    line_of(index.entries.iter().find(|entry| is_astray(index, entry)))
+    let mut entries = index.entries.iter();
+    entries.find(|entry| is_astray(index, entry))
 }
 
 #[tactic(auto, using(crate::proofs::Missing::none_missing))]

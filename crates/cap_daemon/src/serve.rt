@@ -5,7 +5,7 @@ ghost use Rattle.cap_session.specs.Counted.{state_of, CanCount};
 
 use cap_base::RESOURCES;
 use cap_commands::{complain, print};
-use cap_config::{Config, ConfigFault, ConfigFaultKind, read_config};
+use cap_config::{Config, ConfigFaultKind, DetailedFault, read_detailed};
 use cap_server::{Sizes, serve_on};
 use cap_session::Counted;
 use cap_workers::Tally;
@@ -154,9 +154,9 @@ fn read_settings<H: Files + AllocGlobal, W: Write>(
         Err(error) if error.kind() == ErrorKind::OutOfMemory => return Err(no_memory(writer)),
         Err(error) => return Err(refuse(alloc, "settings file", Some(error), complaint)),
     };
-    match read_config(alloc, &text) {
+    match read_detailed(alloc, &text) {
         Ok(config) => Ok(config),
-        Err(fault) => Err(refuse_settings(alloc, &text, &fault, writer, complaint)),
+        Err(found) => Err(refuse_settings(alloc, &text, &found, writer, complaint)),
     }
 }
 
@@ -234,7 +234,7 @@ fn refuse(alloc: Global, what: &str, error: Option<io::Error>, complaint: &mut S
 fn refuse_settings<W: Write>(
     alloc: Global,
     text: &[u8],
-    fault: &ConfigFault,
+    found: &DetailedFault,
     writer: &mut Counted<W>,
     complaint: &mut String,
 ) -> u8
@@ -242,6 +242,7 @@ fn refuse_settings<W: Write>(
     ensures status { result < 4 }
     ensures failed { (state_of writer.old).failures < (state_of writer.new).failures → result ≡ 1 }
 {
+    let fault = &found.fault;
     if fault.kind == ConfigFaultKind::NoMemory {
         return no_memory(writer);
     }
@@ -249,7 +250,7 @@ fn refuse_settings<W: Write>(
         return no_memory(writer);
     };
     match print(writer, line.as_bytes()) {
-        0 => complain(alloc, text, fault, complaint),
+        0 => complain(alloc, text, found, complaint),
         failed => failed,
     }
 }

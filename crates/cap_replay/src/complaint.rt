@@ -2,7 +2,7 @@
 
 use crate::script::Script;
 use crate::stop::Stop;
-use cap_config::ConfigFault;
+use cap_config::{ConfigFaultKind, read_detailed};
 use cap_model::NoMemory;
 use cap_words::describe;
 use std::alloc::{AllocError, Global};
@@ -22,23 +22,25 @@ pub(crate) fn explain_end(
             let text = format!(in alloc; "line {line}: {expected}\n")?;
             words.push_str(text.as_str())
         }
-        Err(Stop::Config(fault)) => explain_fault(alloc, script.settings_text(), &fault, words),
+        Err(Stop::Config(_)) => explain_fault(alloc, script.settings_text(), words),
         Ok(()) | Err(Stop::NoMemory | Stop::Input | Stop::Output) => Ok(()),
     }
 }
 
-/// Adds the words for a fault of the settings.
-fn explain_fault(
-    alloc: Global,
-    text: &[u8],
-    fault: &ConfigFault,
-    words: &mut String,
-) -> Result<(), AllocError> {
-    let described = match describe(alloc, text, fault) {
+/// Adds the words for the fault of the settings. They are read once more, since a `Stop` comes back from each line and keeps no
+/// detail.
+fn explain_fault(alloc: Global, text: &[u8], words: &mut String) -> Result<(), AllocError> {
+    let Err(found) = read_detailed(alloc, text) else {
+        return Ok(());
+    };
+    if found.fault.kind == ConfigFaultKind::NoMemory {
+        return Err(AllocError);
+    }
+    let described = match describe(alloc, text, &found) {
         Ok(described) => described,
         Err(NoMemory) => return Err(AllocError),
     };
-    if fault.line > 0 {
+    if found.fault.line > 0 {
         words.push_str("conf ")?;
     }
     words.push_str(described.as_str())?;

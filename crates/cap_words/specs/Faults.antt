@@ -3,12 +3,11 @@ use Rattle.std.specs.Prelude.{◌≡◌, ℕ, List, [], ◌++◌, Option, Some, 
 use Rattle.cap_vector.specs.Vector.{amount}
 use Rattle.cap_config.specs.declared.detail.Detail.{Detail}
 use Rattle.cap_config.specs.declared.detail.Detail.TheVariants.{Plain, Earlier, Form, Unlisted, Over}
+use Rattle.cap_config.specs.declared.detail.DetailedFault.{DetailedFault}
 use Rattle.cap_config.specs.declared.detail.Limit.{Limit}
 use Rattle.cap_config.specs.declared.detail.Limit.TheVariants.{MaximumAllocation, OwnMaximum, InheritedMaximum, MaximumAbove, OwnCapacity}
-use Rattle.cap_base.specs.declared.properties.fault.ConfigFault.{ConfigFault}
 use Rattle.cap_base.specs.declared.properties.setting.Setting.{Setting}
 use Rattle.cap_base.specs.declared.properties.setting.Setting.TheVariants.{Queues, Capacity, MaximumCapacity, UserLimitFactor, State, MaximumApplications, MinimumMemory, MinimumVcores, MinimumGpu, MaximumMemory, MaximumVcores, MaximumGpu}
-use Rattle.cap_config.specs.Details.{detail_in}
 use Rattle.cap_config.specs.LineKeys.{line_key}
 use Rattle.cap_words.specs.Amounts.{over_words}
 
@@ -63,5 +62,5 @@ detail_words general (Unlisted path) = path ++ codes " is not listed by the .que
 detail_words general (Over limit amounts most) = limit_words limit ++ each_over amounts most
 
 -- the words for a fault of a text: its line, its key and what there is to say of it, or else some general words
-abbrev pub Describes : List ℕ → ConfigFault → List ℕ → Type 0
-Describes text fault words = (general : List ℕ) × (words ≡ heading text fault.line ++ detail_words general (detail_in text fault))
+abbrev pub Describes : List ℕ → DetailedFault → List ℕ → Type 0
+Describes text found words = (general : List ℕ) × (words ≡ heading text found.fault.line ++ detail_words general found.detail)

@@ -7,7 +7,7 @@ ghost use Rattle.cap_config.specs.LineKeys.{line_key};
 use crate::amounts::{put_number, put_over};
 use crate::text::text_of;
 use cap_base::{NoMemory, RESOURCES};
-use cap_config::{ConfigFault, Detail, Limit, Setting, detail_of, line_key};
+use cap_config::{Detail, DetailedFault, Limit, Setting, line_key};
 use std::alloc::{AllocError, Global};
 
 /// One line of words for the first fault of these property lines, without a line feed: the number of its line, the key
@@ -15,23 +15,22 @@ use std::alloc::{AllocError, Global};
 ///
 /// A fault without a line has no number, and a line whose key is missing or not printable has no key. Any fault has words,
 /// also one of another text. `NoMemory` if an allocation fails.
-pub fn describe(alloc: Global, text: &[u8], fault: &ConfigFault) -> Result<String, NoMemory>
-    ensures { IfOk result (λ words. Describes text.now fault.now (string_bytes words)) }
+pub fn describe(alloc: Global, text: &[u8], found: &DetailedFault) -> Result<String, NoMemory>
+    ensures { IfOk result (λ words. Describes text.now found.now (string_bytes words)) }
 {
-    match described(alloc, text, fault) {
+    match described(alloc, text, found) {
         Ok(words) => Ok(words),
         Err(_) => Err(NoMemory),
     }
 }
 
-fn described(alloc: Global, text: &[u8], fault: &ConfigFault) -> Result<String, AllocError>
-    ensures { IfOk result (λ words. Describes text.now fault.now (string_bytes words)) }
+fn described(alloc: Global, text: &[u8], found: &DetailedFault) -> Result<String, AllocError>
+    ensures { IfOk result (λ words. Describes text.now found.now (string_bytes words)) }
 {
-    let kind = fault.kind;
+    let kind = found.fault.kind;
     let general = format!(in alloc; "{kind}")?;
-    let detail = detail_of(alloc, text, fault)?;
-    let mut words = heading(alloc, text, fault.line)?;
-    put_detail(&mut words, general.as_str(), &detail)?;
+    let mut words = heading(alloc, text, found.fault.line)?;
+    put_detail(&mut words, general.as_str(), &found.detail)?;
     Ok(words)
 }
 

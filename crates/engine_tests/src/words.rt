@@ -1,12 +1,16 @@
 //! Tests of the words for a fault of property lines, whatever the text, and of the table of many queues.
 
-use cap_config::{ConfigFault, ConfigFaultKind, read_config};
+use cap_config::{ConfigFault, ConfigFaultKind, Detail, DetailedFault, read_config};
 use cap_words::{describe, queue_table};
 use std::alloc::{AllocError, Global};
 
-/// The words for a fault, and none where an allocation fails.
-fn words(alloc: Global, text: &[u8], fault: &ConfigFault) -> String {
-    match describe(alloc, text, fault) {
+/// The words for a fault without a detail, and none where an allocation fails.
+fn words(alloc: Global, text: &[u8], line: usize, kind: ConfigFaultKind) -> String {
+    let found = DetailedFault {
+        fault: ConfigFault { line, kind },
+        detail: Detail::Plain,
+    };
+    match describe(alloc, text, &found) {
         Ok(words) => words,
         Err(_) => String::new(alloc),
     }
@@ -43,8 +47,7 @@ fn faults_of_another_text(rt: HostRuntime) {
         ),
     ];
     for &(line, kind, want) in &cases {
-        let fault = ConfigFault { line, kind };
-        assert_eq!(rt; words(rt.alloc(), text, &fault).as_str(), want);
+        assert_eq!(rt; words(rt.alloc(), text, line, kind).as_str(), want);
     }
 }
 
@@ -74,8 +77,7 @@ fn any_fault_has_words_for_any_text(rt: HostRuntime) {
     for &text in &texts {
         for &kind in &KINDS {
             for &line in &[0, 1, 2, 3, usize::MAX] {
-                let fault = ConfigFault { line, kind };
-                assert!(rt; !words(rt.alloc(), text, &fault).is_empty());
+                assert!(rt; !words(rt.alloc(), text, line, kind).is_empty());
             }
         }
     }

@@ -1,11 +1,12 @@
-use Rattle.cap_config.proofs.Prelude.{◌≡◌, ◌+◌, ◌≤◌, List, ℕ, length, lines, read_after, read_lines, HasAll}
+use Rattle.cap_config.proofs.Prelude.{◌+◌, ◌≤◌, List, ℕ, length, lines, HasAll}
+use Rattle.cap_config.proofs.NextLine.{SoFar}
 use Rattle.cap_config.proofs.first_pass.read_lines.Given as goal
 
--- what all lines set is what those that are left set after those so far
+-- the lines so far, and what they set
 abbrev pub invariant-loop-rest : goal.invariant-loop-rest
 invariant-loop-rest l = record {
   small : l.line + length l.rest ≤ length l.text;
-  so_far : (keys : List (List ℕ)) × HasAll l.keys keys × (read_lines (lines l.text) ≡ read_after l.line keys l.entries.items (lines l.rest));
+  so_far : (keys : List (List ℕ)) × HasAll l.keys keys × SoFar (lines l.text) (lines l.rest) l.line keys l.entries.items;
 }
 
 abbrev pub decreases-loop-rest : goal.decreases-loop-rest
