@@ -1,6 +1,7 @@
--- The line and the kind of a first fault.
-use Rattle.cap_config.proofs.Prelude.{◌≡◌, ℕ, suc, ◌+◌, ◌≤◌, List, [], ◌∷◌, ◌++◌, length, Bool, true, false, cond, leb, max, min, Option, Some, None, Result, Ok, Err, refl, subst, arith, ◌≢◌, ◌==◌, find, is_none, IfSome, list_all, slice_split, onto_first, option_map, lines, lines_of_parts, nat_tests, list_all-append, length-slice_split, Entry, Key, Value, Setting, Queues, MinimumMemory, MinimumVcores, MinimumGpu, MaximumMemory, MaximumVcores, MaximumGpu, amount_max, ConfigFault, ConfigFaultKind, Repeated, BadValue, NoSuchQueue, OverParent, GuaranteeOverMaximum, TooManyQueues, TooDeep, NoChild, NoMemory, fault_at, key_of, root, contains_bytes, value_of, entry_for, same_setting, entry_of, with_value, with_key, with_parts, line_parts, read_after, read_lines, and_then, is_passed_over, key_text, line_where, cluster_entry, line_or_zero, pair_line, lesser, allocation_line, lists_none, no_child_line, is_astray, lists_deep, listed_by, line_past, is_over_maximum, is_over_parent, or_else, or_fault, shape_fault, whole_fault, first_fault, fault_after, FaultsAreInLines, LinesAreFew, FaultsAreOfText}
+-- What each line sets is within its bounds, and the line and the kind of a first fault.
+use Rattle.cap_config.proofs.Prelude.{◌≡◌, ℕ, suc, ◌+◌, ◌≤◌, List, [], ◌∷◌, ◌++◌, length, Bool, true, false, cond, leb, max, min, Option, Some, None, Result, Ok, Err, refl, subst, arith, ◌≢◌, ◌==◌, find, is_none, IfSome, list_all, slice_split, onto_first, option_map, lines, lines_of_parts, nat_tests, list_all-append, length-slice_split, Entry, Key, Value, Setting, Queues, MinimumMemory, MinimumVcores, MinimumGpu, MaximumMemory, MaximumVcores, MaximumGpu, amount_max, ConfigFault, ConfigFaultKind, Repeated, BadValue, NoSuchQueue, OverParent, GuaranteeOverMaximum, TooManyQueues, TooDeep, NoChild, NoMemory, fault_at, key_of, root, contains_bytes, value_of, entry_for, same_setting, entry_of, with_value, with_key, with_parts, line_parts, read_after, read_lines, and_then, is_passed_over, key_text, line_where, cluster_entry, line_or_zero, pair_line, lesser, allocation_line, lists_none, no_child_line, is_astray, lists_deep, listed_by, line_past, is_over_maximum, is_over_parent, or_else, or_fault, shape_fault, whole_fault, first_fault, fault_after, is_bounded, are_bounded, FaultsAreInLines, LinesAreFew, FaultsAreOfText}
 use Rattle.cap_config.proofs.Found.{both, found_has}
+use Rattle.cap_config.proofs.Kept.{value_kept}
 
 -- the entries are of the first n lines
 abbrev are_within : ℕ → List Entry → Bool
@@ -98,21 +99,21 @@ unfolding whole_fault
 whole_is n entries all =
     or_fault_is n (shape_fault entries) _ (shape_is n entries all) (or_is n _ OverParent None (where_is n (is_over_parent entries) entries all) (λ e. absurd (cc e)) tt)
 
--- what line n sets, or its fault
+-- what line n sets, within its bounds, or the line's fault
 abbrev pub IsOfLine : ℕ → Result Entry ConfigFault → Type 0
-IsOfLine n (Ok entry) = entry.line ≡ n
+IsOfLine n (Ok entry) = (entry.line ≡ n) × (is_bounded entry ≡ true)
 IsOfLine n (Err fault) = (fault.line ≡ n) × (fault.kind ≢ NoMemory)
 
-value_is : (n : ℕ) (key : Key) (o : Option Value) → IsOfLine n (with_value n key o)
-value_is n key (Some value) = refl
-value_is n key None = (refl, λ e. absurd (cc e))
+value_is : (n : ℕ) (key : Key) (bytes : List ℕ) (o : Option Value) → value_of key bytes ≡ o → IsOfLine n (with_value n key o)
+value_is n key bytes (Some value) is = (refl, value_kept key.queue key.setting bytes value is)
+value_is n key bytes None is = (refl, λ e. absurd (cc e))
 
 unless_is : (n : ℕ) (stood : Bool) (here : Result Entry ConfigFault) → IsOfLine n here → IsOfLine n (cond stood (Err (fault_at n Repeated)) here)
 unless_is n true here h = (refl, λ e. absurd (cc e))
 unless_is n false here h = h
 
 key_is : (keys : List (List ℕ)) (n : ℕ) (name bytes : List ℕ) (o : Option Key) → IsOfLine n (with_key keys n name bytes o)
-key_is keys n name bytes (Some key) = unless_is n (contains_bytes keys name) _ (value_is n key (value_of key bytes))
+key_is keys n name bytes (Some key) = unless_is n (contains_bytes keys name) _ (value_is n key bytes (value_of key bytes) refl)
 key_is keys n name bytes None = (refl, λ e. absurd (cc e))
 
 parts_is : (keys : List (List ℕ)) (n : ℕ) (o : Option (List ℕ × List ℕ)) → IsOfLine n (with_parts keys n o)
@@ -123,41 +124,52 @@ pub entry_is : (keys : List (List ℕ)) (n : ℕ) (line : List ℕ) → IsOfLine
 unfolding entry_of
 entry_is keys n line = parts_is keys n (line_parts line)
 
--- what n lines set, or the first fault of one of them
+-- what n lines set, within its bounds, or the first fault of one of them
 abbrev IsOfLines : ℕ → Result (List Entry) ConfigFault → Type 0
-IsOfLines n (Ok entries) = are_within n entries ≡ true
+IsOfLines n (Ok entries) = (are_within n entries ≡ true) × (are_bounded entries ≡ true)
 IsOfLines n (Err fault) = IsOfText n fault
 
 weaker : (n m : ℕ) (fault : ConfigFault) → n ≤ m → fault.line ≡ n → fault.kind ≢ NoMemory → IsOfText m fault
 weaker n m fault h l k = record { line = omega (arith, l, h); kind = k }
 
 by_line : (n m : ℕ) (passed : Bool) (later : Result (List Entry) ConfigFault) (here : Result Entry ConfigFault) (next : Entry → Result (List Entry) ConfigFault) → n ≤ m →
-    IsOfLines m later → IsOfLine n here → ((entry : Entry) → entry.line ≡ n → IsOfLines m (next entry)) → IsOfLines m (cond passed later (and_then here next))
+    IsOfLines m later → IsOfLine n here → ((entry : Entry) → IsOfLine n (Ok entry) → IsOfLines m (next entry)) → IsOfLines m (cond passed later (and_then here next))
 by_line n m true later here next h rest is more = rest
 by_line n m false later (Ok entry) next h rest is more = more entry is
 by_line n m false later (Err fault) next h rest is more = weaker n m fault h is.0 is.1
 
-within_push : (m : ℕ) (entries : List Entry) (entry : Entry) → are_within m entries ≡ true → entry.line ≤ m → are_within m (entries ++ entry ∷ []) ≡ true
-within_push m entries entry all one =
-    let this : leb entry.line m ≡ true = grind (arith, nat_tests) in
-    rw (list_all-append (λ (e : Entry). leb e.line m) entries (entry ∷ []), all, this) refl
+all_push : (p : Entry → Bool) (entries : List Entry) (entry : Entry) → list_all p entries ≡ true → p entry ≡ true → list_all p (entries ++ entry ∷ []) ≡ true
+all_push p entries entry all one = rw (list_all-append p entries (entry ∷ []), all, one) refl
 
-read_is : (lines : List (List ℕ)) (n m : ℕ) (keys : List (List ℕ)) (entries : List Entry) → n + length lines ≡ m → are_within m entries ≡ true → IsOfLines m (read_after n keys entries lines)
+line_within : (n m line : ℕ) → line ≡ n → n ≤ m → leb line m ≡ true
+line_within n m line is h = grind (arith, nat_tests)
+
+read_is : (lines : List (List ℕ)) (n m : ℕ) (keys : List (List ℕ)) (entries : List Entry) → n + length lines ≡ m → IsOfLines m (Ok entries) → IsOfLines m (read_after n keys entries lines)
 unfolding read_after
 read_is [] n m keys entries e all = all
 read_is (line ∷ lines) n m keys entries e all =
-    by_line (n + 1) m (is_passed_over line) _ (entry_of keys (n + 1) line) _ (omega (arith, e))
+    let here : n + 1 ≤ m = omega (arith, e) in
+    by_line (n + 1) m (is_passed_over line) _ (entry_of keys (n + 1) line) _ here
     (read_is lines (n + 1) m keys entries (omega (arith, e)) all)
     (entry_is keys (n + 1) line)
-    (λ entry is. read_is lines (n + 1) m (keys ++ key_text line ∷ []) (entries ++ entry ∷ []) (omega (arith, e)) (within_push m entries entry all (omega (arith, e, is))))
+    (λ entry is.
+    read_is lines (n + 1) m (keys ++ key_text line ∷ []) (entries ++ entry ∷ []) (omega (arith, e))
+    (all_push (λ (x : Entry). leb x.line m) entries entry all.0 (line_within (n + 1) m entry.line is.0 here), all_push is_bounded entries entry all.1 is.1))
+
+all_is : (lines : List (List ℕ)) → IsOfLines (length lines) (read_lines lines)
+all_is lines = read_is lines 0 (length lines) [] [] (omega arith) (refl, refl)
+
+-- what the lines of a text set is within its bounds
+pub lines_kept : (lines : List (List ℕ)) (entries : List Entry) → read_lines lines ≡ Ok entries → are_bounded entries ≡ true
+lines_kept lines entries h = (subst (IsOfLines (length lines)) h (all_is lines)).1
 
 fault_is : (n : ℕ) (r : Result (List Entry) ConfigFault) → IsOfLines n r → IfSome (fault_after r) (IsOfText n)
-fault_is n (Ok entries) all = whole_is n entries all
+fault_is n (Ok entries) all = whole_is n entries all.0
 fault_is n (Err fault) is = is
 
 first_is : (text : List ℕ) → IfSome (first_fault text) (IsOfText (length (lines text)))
 unfolding first_fault
-first_is text = fault_is (length (lines text)) (read_lines (lines text)) (read_is (lines text) 0 (length (lines text)) [] [] (omega arith) refl)
+first_is text = fault_is (length (lines text)) (read_lines (lines text)) (all_is (lines text))
 
 its_fault : (n : ℕ) (r : Option ConfigFault) (fault : ConfigFault) → r ≡ Some fault → IfSome r (IsOfText n) → IsOfText n fault
 its_fault n r fault e is = subst (λ (o : Option ConfigFault). IfSome o (IsOfText n)) e is

@@ -1,24 +1,10 @@
--- The first line that passes a test, entry by entry.
+-- The line past which there are too many queues, entry by entry, and the first that lists none.
 use Rattle.cap_config.proofs.Prelude.{◌≡◌, ℕ, suc, ◌+◌, ◌<◌, ◌≤◌, List, ◌∷◌, length, get_or, drop, drop-cons, Bool, true, false, ltb, Option, Some, None, refl, sym, ap, ◌∙◌, add-one, Entry, drop_all, is_none, option_copied, Queues, root, entry_for, line_where, line_past, listed_by, no_child_line, lists_none}
 use denote.Ref.{Bor}
 
 here_first : (test : Entry → Bool) (entries : List Entry) (i : ℕ) (entry : Entry) → i < length entries → entry ≡ get_or entries i entry →
     drop i entries ≡ entry ∷ drop (i + 1) entries
 here_first test entries i entry h is = drop-cons entries i entry h ∙ ap (λ (x : Entry). x ∷ drop (suc i) entries) (sym is) ∙ ap (λ n. entry ∷ drop n entries) (sym (add-one i))
-
-pub line_here : (test : Entry → Bool) (entries : List Entry) (i : ℕ) (entry : Entry) → i < length entries → entry ≡ get_or entries i entry → test entry ≡ true →
-    line_where test (drop i entries) ≡ Some entry.line
-unfolding line_where
-line_here test entries i entry h is passes = ap (line_where test) (here_first test entries i entry h is) ∙ rw passes refl
-
-pub line_later : (test : Entry → Bool) (entries : List Entry) (i : ℕ) (entry : Entry) → i < length entries → entry ≡ get_or entries i entry → test entry ≡ false →
-    line_where test (drop i entries) ≡ line_where test (drop (i + 1) entries)
-unfolding line_where
-line_later test entries i entry h is fails = ap (line_where test) (here_first test entries i entry h is) ∙ rw fails refl
-
-pub line_nowhere : (test : Entry → Bool) (entries : List Entry) (i : ℕ) → length entries ≤ i → line_where test (drop i entries) ≡ None
-unfolding line_where
-line_nowhere test entries i h = ap (line_where test) (drop_all i entries h)
 
 pub past_here : (count n : ℕ) (entries : List Entry) (i : ℕ) (entry : Entry) → i < length entries → entry ≡ get_or entries i entry → n ≡ count + listed_by entry.value → ltb 1024 n ≡ true →
     line_past count (drop i entries) ≡ Some entry.line

@@ -1,6 +1,6 @@
 -- Capacities fit in a text with no fault.
 use Rattle.cap_config.proofs.Prelude.{◌≡◌, ℕ, List, true, false, Option, Some, None, Ok, sym, ap, ◌∙◌, bytes_eq, lines, Entry, ConfigFault, OverParent, root, contains_bytes, is_name_under, names_below, child, guaranteed, maximum, over_parent_line, exceeds, exceeds_limit, guaranteed_below, whole_fault, shape_fault, or_else, or_fault, read_lines}
-use Rattle.cap_config.proofs.Kept.{lines_kept}
+use Rattle.cap_config.proofs.FaultLines.{lines_kept}
 use Rattle.cap_config.proofs.Found.{under_path, among_has}
 use Rattle.cap_config.proofs.Children.{child_parts, name_no_dot}
 use Rattle.cap_config.proofs.RowPaths.{shape_of, no_other}

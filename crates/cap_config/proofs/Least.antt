@@ -2,7 +2,7 @@
 use Rattle.cap_config.proofs.Prelude.{◌≡◌, ℕ, zero, suc, ◌+◌, ◌<◌, ◌≤◌, List, length, Bool, true, false, eqb, Option, Some, None, Ok, refl, sym, ap, ◌∙◌, arith, subst, ◌&&◌, lines, nat_tests, Entry, root, parts_at_last_dot, contains_bytes, is_name_under, is_queue, leads_to_root, above, names_below, child, too_deep_line, level, read_lines, are_bounded, HasListed}
 use Rattle.cap_config.proofs.Above.{parent_is, no_parent}
 use Rattle.cap_config.proofs.Trees.{queue_at_top}
-use Rattle.cap_config.proofs.Kept.{lines_kept}
+use Rattle.cap_config.proofs.FaultLines.{lines_kept}
 use Rattle.cap_config.proofs.Found.{both, same_bytes, under_path, among_has, not_deepest}
 use Rattle.cap_config.proofs.Children.{IsCutAt, cut_is, child_parts, level_below, name_no_dot}
 

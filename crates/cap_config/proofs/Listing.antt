@@ -1,6 +1,6 @@
 -- The rows are listed from the root, each queue before those under it.
 use Rattle.cap_config.proofs.Prelude.{◌≡◌, ℕ, zero, suc, ◌≤◌, List, [], ◌∷◌, ◌++◌, append_assoc, true, None, refl, sym, ◌∙◌, arith, subst, inr, slice_index_or, All, flat_map, list_all, append-nil, All-append, All-nil, All-cons, length-slice_split, lines, QueueRow, Settings, is_under, root_path, depth, under_is, is_under_it, under_itself, MayFollow, IsListed, IsListedFromRoot, IsListing, factor_max, Entry, root, is_dot, is_name_under, names_below, child, whole_fault, level, rows_under, row_of, settings_of, are_bounded, SettingsAreListed}
-use Rattle.cap_config.proofs.Kept.{lines_kept}
+use Rattle.cap_config.proofs.FaultLines.{lines_kept}
 use Rattle.cap_config.proofs.Found.{both, under_path, factor_small}
 use Rattle.cap_config.proofs.Children.{name_no_dot, child_is, under_child}
 use Rattle.cap_config.proofs.RowPaths.{queue_level, queue_rows, rows_of_settings}

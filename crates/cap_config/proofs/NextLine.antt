@@ -54,9 +54,6 @@ pub record SoFar (text rest : List (List ℕ)) (n : ℕ) (keys : List (List ℕ)
   pub count : length before ≡ n
   pub read : (more : List (List ℕ)) → read_lines (before ++ more) ≡ read_after n keys entries more
 
-pub none_read : (text : List (List ℕ)) → SoFar text text 0 [] []
-none_read text = record { before = []; cut = refl; count = refl; read = λ more. refl }
-
 pub one_read : (text all rest : List (List ℕ)) (line : List ℕ) (n : ℕ) (keys keys_after : List (List ℕ)) (entries after : List Entry) → all ≡ line ∷ rest → SoFar text all n keys entries →
     ((more : List (List ℕ)) → read_after n keys entries (line ∷ more) ≡ read_after (n + 1) keys_after after more) → SoFar text rest (n + 1) keys_after after
 one_read text all rest line n keys keys_after entries after is s next = record {

@@ -1,7 +1,7 @@
 -- Each vector of the settings has an amount of each resource, and the bounds of a container are resources.
 use Rattle.cap_config.proofs.Prelude.{◌≡◌, ℕ, zero, suc, List, [], ◌∷◌, length, true, Option, Some, None, refl, subst, arith, IfSome, All, flat_map, lines, eqb-true, All-cons, All-nil, IsResource, resources, Entry, Value, Amounts, Setting, Capacity, MaximumCapacity, MinimumMemory, MinimumVcores, MinimumGpu, MaximumMemory, MaximumVcores, MaximumGpu, root, above, amounts_at, amounts_or, child, entry_for, guaranteed, is_entry_for, names_below, nearest_maximum, or_zero, minimum_allocation, maximum_allocation, row_of, rows_under, settings_of, are_bounded, is_bounded, is_kept, most_of, HasAmounts, QueueHasAmounts, SettingsHaveAmounts}
 use Rattle.cap_config.proofs.Found.{found_has, number_small}
-use Rattle.cap_config.proofs.Kept.{lines_kept}
+use Rattle.cap_config.proofs.FaultLines.{lines_kept}
 use Rattle.cap_config.proofs.Listing.{all_small}
 use Rattle.cap_config.proofs.Resources.{three_are_vector}
 use Rattle.cap_config.proofs.RowTrees.{made_of}

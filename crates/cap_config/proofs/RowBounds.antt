@@ -1,6 +1,6 @@
 -- There are at most 1,024 rows.
 use Rattle.cap_config.proofs.Prelude.{◌≡◌, ℕ, zero, suc, ◌+◌, ◌≤◌, List, [], ◌∷◌, length, length-append, Bool, true, false, cond, ltb, Option, Some, None, Ok, refl, sym, ◌∙◌, arith, subst, find, flat_map, sum_by, bytes_eq, lines, nat_tests, sum_by-cons, sum_by-append, QueueRow, sum_of_two, bytes_turned, Entry, Value, Names, Amounts, Number, Running, Queues, root, entry_for, is_entry_for, is_path_at, same_setting, names_below, names_or_none, names_in_value, child, listed_by, line_past, whole_fault, read_lines, are_bounded, rows_under, row_of, settings_of}
-use Rattle.cap_config.proofs.Kept.{lines_kept}
+use Rattle.cap_config.proofs.FaultLines.{lines_kept}
 use Rattle.cap_config.proofs.RowPaths.{shape_of, rows_of_settings}
 use Rattle.cap_config.proofs.RowCounts.{rows_for, rows_at_most}
 

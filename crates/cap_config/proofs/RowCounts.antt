@@ -1,6 +1,6 @@
 -- One row for each queue.
 use Rattle.cap_config.proofs.Prelude.{◌≡◌, ℕ, zero, suc, ◌+◌, ◌≤◌, List, [], ◌∷◌, ◌++◌, length, length-append, drop, Bool, true, false, cond, not, None, Ok, refl, sym, ap, ◌∙◌, inl, inr, arith, subst, ◌||◌, count_by, flat_map, list_all, sum_by, bytes_eq, lines, append_cancel_left, sum_by-cons, sum_by-append, list_any-append, bytes_eq-Decides, or_parts, false_from_ne_true, not-true, QueueRow, IsUnder, before_dot, child_to, only_child, Entry, root, last_dot, contains_bytes, are_new, is_name_under, is_queue, names_below, child, whole_fault, read_lines, rows_under, row_of, settings_of, are_bounded}
-use Rattle.cap_config.proofs.Kept.{lines_kept}
+use Rattle.cap_config.proofs.FaultLines.{lines_kept}
 use Rattle.cap_config.proofs.Found.{both, same_bytes, names_once, under_path}
 use Rattle.cap_config.proofs.Children.{name_no_dot, child_is, child_rest, count_no, under_child}
 use Rattle.cap_config.proofs.RowPaths.{paths_of, either, first_of_two, second_of_two, in_some, paths_more, none_under, rows_are_queues, rows_of_settings}

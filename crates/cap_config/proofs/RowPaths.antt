@@ -1,6 +1,6 @@
 -- The paths of the rows are those of the queues.
 use Rattle.cap_config.proofs.Prelude.{◌≡◌, ℕ, zero, suc, ◌+◌, ◌≤◌, List, [], ◌∷◌, ◌++◌, Bool, true, false, Option, None, Ok, refl, sym, ap, ◌∙◌, arith, subst, ◌||◌, map, flat_map, bytes_eq, lines, QueueRow, same_test, bytes_itself, Entry, ConfigFault, ConfigFaultKind, root, contains_bytes, is_queue, names_below, child, BadValue, NoChild, NoSuchQueue, TooDeep, TooManyQueues, GuaranteeOverMaximum, allocation_line, no_child_line, no_such_queue_line, too_deep_line, too_many_line, over_maximum_line, level, whole_fault, shape_fault, or_else, or_fault, read_lines, rows_under, row_of, settings_of, are_bounded}
-use Rattle.cap_config.proofs.Kept.{lines_kept}
+use Rattle.cap_config.proofs.FaultLines.{lines_kept}
 use Rattle.cap_config.proofs.Found.{same_bytes}
 use Rattle.cap_config.proofs.Children.{level_below}
 use Rattle.cap_config.proofs.Least.{of_queues, root_is, listed_is, level_small}

@@ -1,5 +1,5 @@
 use Rattle.cap_config.proofs.Prelude.{◌∙◌, ap, refl, sym, subst, Ok, Option, lines, IfOk-weaker, IfErr-weaker, err_from_is_err_and, ConfigFault, are_bounded, read_lines, AnswersFault, first_fault, settings_after, whole_fault, fault_alone, detail_in, detail_after, whole_detail}
-use Rattle.cap_config.proofs.Kept.{lines_kept}
+use Rattle.cap_config.proofs.FaultLines.{lines_kept}
 use Rattle.cap_config.proofs.Firsts.{early_by_line, early_by_shape, line_fault, settings_are}
 use Rattle.cap_config.proofs.LineDetails.{detail_of_line}
 use Rattle.cap_config.proofs.reading.read_detailed.Goals as goal
