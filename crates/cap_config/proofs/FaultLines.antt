@@ -99,6 +99,29 @@ unfolding whole_fault
 whole_is n entries all =
     or_fault_is n (shape_fault entries) _ (shape_is n entries all) (or_is n _ OverParent None (where_is n (is_over_parent entries) entries all) (λ e. absurd (cc e)) tt)
 
+its_fault : (n : ℕ) (r : Option ConfigFault) (fault : ConfigFault) → r ≡ Some fault → IfSome r (IsOfText n) → IsOfText n fault
+its_fault n r fault e is = subst (λ (o : Option ConfigFault). IfSome o (IsOfText n)) e is
+
+within_more : (n k : ℕ) (entries : List Entry) → are_within n entries ≡ true → are_within (k + n) entries ≡ true
+within_more n k [] all = refl
+within_more n k (e ∷ entries) all =
+    let parts = both (leb e.line n) (are_within n entries) all in
+    let here : leb e.line (k + n) ≡ true = grind (arith, nat_tests, parts.0) in
+    rw (here, within_more n k entries parts.1) refl
+
+within_some : (entries : List Entry) → (n : ℕ) × (are_within n entries ≡ true)
+within_some [] = (0, refl)
+within_some (e ∷ entries) =
+    let rest = within_some entries in
+    let here : leb e.line (e.line + rest.0) ≡ true = grind (arith, nat_tests) in
+    (e.line + rest.0, rw (here, within_more rest.0 e.line entries rest.1) refl)
+
+-- a fault of the whole text is never want of memory
+pub whole_of_text : (entries : List Entry) (fault : ConfigFault) → whole_fault entries ≡ Some fault → fault.kind ≢ NoMemory
+whole_of_text entries fault h =
+    let within = within_some entries in
+    (its_fault within.0 (whole_fault entries) fault h (whole_is within.0 entries within.1)).kind
+
 -- what line n sets, within its bounds, or the line's fault
 abbrev pub IsOfLine : ℕ → Result Entry ConfigFault → Type 0
 IsOfLine n (Ok entry) = (entry.line ≡ n) × (is_bounded entry ≡ true)
@@ -170,9 +193,6 @@ fault_is n (Err fault) is = is
 first_is : (text : List ℕ) → IfSome (first_fault text) (IsOfText (length (lines text)))
 unfolding first_fault
 first_is text = fault_is (length (lines text)) (read_lines (lines text)) (all_is (lines text))
-
-its_fault : (n : ℕ) (r : Option ConfigFault) (fault : ConfigFault) → r ≡ Some fault → IfSome r (IsOfText n) → IsOfText n fault
-its_fault n r fault e is = subst (λ (o : Option ConfigFault). IfSome o (IsOfText n)) e is
 
 pub faults_in_lines : FaultsAreInLines
 faults_in_lines text fault e = (its_fault (length (lines text)) (first_fault text) fault e (first_is text)).line

@@ -39,24 +39,12 @@ pub fn read_detailed(alloc: Global, text: &[u8]) -> Result<Config<RESOURCES>, De
     ensures settings { IfOk result (λ config. settings_in text.now ≡ Some config) }
 {
     let entries = read_lines(alloc, text)?;
-    settings_of(alloc, &entries)
+    let index = index_of(alloc, &entries)?;
+    settings_of(alloc, &index)
 }
 
 /// The settings that the entries of all lines make, or the first fault of the whole text.
-fn settings_of(alloc: Global, entries: &[Entry]) -> Result<Config<RESOURCES>, DetailedFault>
-    requires { are_bounded entries.now ≡ true }
-    ensures fault { AnswersFault (whole_fault entries.now) (fault_alone result) }
-    ensures detail { IfErr result
-        (λ found. found.detail ≡ whole_detail entries.now found.fault.kind) }
-    ensures settings { IfOk result
-        (λ config. settings_after (Ok entries.now) ≡ Some config) }
-{
-    let index = index_of(alloc, entries)?;
-    indexed_settings(alloc, &index)
-}
-
-/// The same of the entries that an index finds.
-fn indexed_settings(alloc: Global, index: &Index) -> Result<Config<RESOURCES>, DetailedFault>
+fn settings_of(alloc: Global, index: &Index) -> Result<Config<RESOURCES>, DetailedFault>
     requires index { IsIndex index.now }
     requires bounded { are_bounded index.now.entries.now ≡ true }
     ensures fault { AnswersFault (whole_fault index.now.entries.now) (fault_alone result) }
