@@ -1,5 +1,5 @@
 -- What a fault is about, beyond its line and its kind.
-use Rattle.std.specs.Prelude.{ℕ, ◌-◌, ◌^◌, List, [], ◌∷◌, find, take, slice_index_or, Option, Some, None, Bool, true, false, min, if◌then◌else◌, Result, Ok, Err}
+use Rattle.std.specs.Prelude.{ℕ, ◌-◌, ◌^◌, List, [], ◌∷◌, find, take, slice_index_or, Option, Some, None, Bool, true, false, ◌&&◌, min, if◌then◌else◌, Result, Ok, Err}
 use Rattle.std.specs.Str.Lines.{lines}
 use Rattle.cap_vector.specs.Vector.{by_amount}
 use Rattle.cap_base.specs.Limits.{resources}
@@ -13,7 +13,6 @@ use Rattle.cap_base.specs.declared.properties.entry.Entry.{Entry}
 use Rattle.cap_base.specs.declared.properties.key.Key.{Key}
 use Rattle.cap_base.specs.declared.properties.value.Value.{Value}
 use Rattle.cap_base.specs.declared.properties.value.Value.TheVariants.{Names, Amounts}
-use Rattle.cap_base.specs.declared.properties.setting.Setting.{Setting}
 use Rattle.cap_base.specs.declared.properties.setting.Setting.TheVariants.{MaximumCapacity}
 use Rattle.cap_base.specs.declared.properties.fault.ConfigFault.{ConfigFault}
 use Rattle.cap_base.specs.declared.properties.fault.ConfigFaultKind.{ConfigFaultKind}
@@ -22,8 +21,8 @@ use Rattle.cap_base.specs.properties.Entries.{key_text, read_lines}
 use Rattle.cap_base.specs.properties.Fault.{fault_at}
 use Rattle.std.specs.Str.{bytes_eq}
 use Rattle.cap_base.specs.properties.Keys.{key_of, parts_at_last_dot, root}
-use Rattle.cap_base.specs.properties.Queues.{above, amounts_at, entry_for, guaranteed, is_below, maximum}
-use Rattle.cap_base.specs.properties.Tests.{cluster_entry, is_astray, is_over_maximum, is_over_parent, minimum_allocation, maximum_allocation, sum_below}
+use Rattle.cap_base.specs.properties.Queues.{above, amounts_at, entry_for, guaranteed, is_below, maximum, same_setting}
+use Rattle.cap_base.specs.properties.Tests.{is_astray, is_over_maximum, is_over_parent, minimum_allocation, maximum_allocation, sum_below}
 
 -- a fault alone, without its detail
 abbrev pub fault_alone : {X : Type 0} → Result X DetailedFault → Result X ConfigFault
@@ -113,14 +112,17 @@ whole_detail entries GuaranteeOverMaximum = of_entry (λ entry. over_maximum ent
 whole_detail entries OverParent = of_entry (λ entry. over_parent entries entry.queue entry.value) (find (is_over_parent entries) entries)
 whole_detail entries _ = Plain
 
--- the entry that sets the property of a key
-abbrev pub set_by : List Entry → Option (List ℕ) → Setting → Option Entry
-set_by entries (Some path) setting = entry_for entries setting path
-set_by entries None setting = cluster_entry entries setting
-
 -- what a fault of a line is about, after lines that set these entries: the one with the same key, or the property of its key
+abbrev pub same_queue : Option (List ℕ) → Option (List ℕ) → Bool
+same_queue (Some a) (Some b) = bytes_eq a b
+same_queue None None = true
+same_queue a b = false
+
+abbrev pub has_key : Key → Entry → Bool
+has_key key entry = same_setting entry.setting key.setting && same_queue entry.queue key.queue
+
 abbrev pub earlier : List Entry → Key → Detail
-earlier entries key = of_entry (λ entry. Earlier entry.line) (set_by entries key.queue key.setting)
+earlier entries key = of_entry (λ entry. Earlier entry.line) (find (has_key key) entries)
 
 abbrev pub line_detail : List Entry → ConfigFaultKind → Option Key → Detail
 line_detail entries Repeated (Some key) = earlier entries key

@@ -1,17 +1,16 @@
 //! A fault and what it is about, beyond its line and its kind (`DetailedFault`, `Detail`).
-ghost use Rattle.std.specs.Prelude.{◌≡◌};
+ghost use Rattle.std.specs.Prelude.{◌≡◌, find};
 ghost use Rattle.std.specs.Option.{option_map, option_copied};
 ghost use Rattle.cap_config.specs.Index.{IsIndex};
 ghost use Rattle.cap_base.specs.properties.Keys.{parts_at_last_dot};
-ghost use Rattle.cap_base.specs.properties.Queues.{entry_for, is_entry_for};
-ghost use Rattle.cap_config.specs.Details.{detailed, earlier, set_by, allocation_detail, unlisted, unlisted_at, over_maximum, over_own, limit_of, over_parent, over_above, over_capacity, over_some};
+ghost use Rattle.cap_config.specs.Details.{detailed, earlier, has_key, same_queue, allocation_detail, unlisted, unlisted_at, over_maximum, over_own, limit_of, over_parent, over_above, over_capacity, over_some};
 
 use crate::allocation::{maximum_allocation, minimum_allocation};
 use crate::guarantees::added_below;
-use crate::index::{Index, entry_at, path_for};
+use crate::index::{Index, entry_at};
 use crate::key::split_last_dot;
 use crate::queues::{amounts_at, guaranteed, maximum, missing_path};
-use crate::second_pass::cluster_entry;
+use crate::setting::same_setting;
 use cap_base::properties::{ConfigFault, ConfigFaultKind, Entry, Key, Setting, Value};
 use cap_base::{PathText, RESOURCES, ShortText};
 use cap_vector::Resource;
@@ -106,35 +105,25 @@ pub fn earlier(entries: &[Entry], key: &Key) -> Detail
     }
 }
 
-/// The entry that sets the property of this key.
 fn set_by<'e, 't>(entries: &'e [Entry<'t>], key: &Key) -> Option<&'e Entry<'t>>
-    ensures { option_copied result ≡ set_by entries.now key.now.queue key.now.setting }
+    ensures { option_copied result ≡ find (has_key key.now) entries.now }
 {
-    match &key.queue {
-        Some(path) => entry_for(entries, key.setting, path.as_bytes()),
-        None => cluster_entry(entries, key.setting),
-    }
+    entries.iter().find(|entry| has_key(entry, key))
 }
 
-/// The entry that sets a property for the queue at `path`.
-#[tactic(auto, unfolding(cap_base::specs::properties::Queues::entry_for))]
-fn entry_for<'e, 't>(
-    entries: &'e [Entry<'t>],
-    setting: Setting,
-    path: &[u8],
-) -> Option<&'e Entry<'t>>
-    ensures { option_copied result ≡ entry_for entries.now setting path.now }
+fn has_key(entry: &Entry, key: &Key) -> bool
+    ensures { result ≡ has_key key.now entry.now }
 {
-    entries.iter().find(|entry| is_entry_for(entry, setting, path))
+    same_setting(entry.setting, key.setting) && same_queue(&entry.queue, &key.queue)
 }
 
-/// Whether an entry sets this property for the queue at `path`.
-fn is_entry_for(entry: &Entry, setting: Setting, path: &[u8]) -> bool
-    ensures { result ≡ is_entry_for setting path.now entry.now }
+fn same_queue(a: &Option<PathText>, b: &Option<PathText>) -> bool
+    ensures { result ≡ same_queue a.now b.now }
 {
-    match path_for(entry, setting) {
-        Some(queue) => queue == path,
-        None => false,
+    match (a, b) {
+        (Some(a), Some(b)) => a.as_bytes() == b.as_bytes(),
+        (None, None) => true,
+        _ => false,
     }
 }
 

@@ -62,7 +62,7 @@ fn places_of<'e, 't>(
 }
 
 /// The path of the queue for which an entry sets this property.
-pub fn path_for<'e, 't>(entry: &'e Entry<'t>, setting: Setting) -> Option<&'e [u8]>
+fn path_for<'e, 't>(entry: &'e Entry<'t>, setting: Setting) -> Option<&'e [u8]>
     ensures { option_map (λ path. path.now) result ≡ path_for setting entry.now }
 {
     if !same_setting(entry.setting, setting) {
