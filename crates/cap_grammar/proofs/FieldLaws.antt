@@ -1,12 +1,12 @@
--- A field that is read is the field that was written, and what was written is read again.
-use Rattle.cap_grammar.proofs.Prelude.{◌≡◌, ℕ, zero, suc, ◌+◌, ◌-◌, ◌^◌, ◌<◌, ◌≤◌, Bool, true, false, cond, List, [], ◌∷◌, ◌++◌, length, get_or, take, drop, Option, Some, None, refl, sym, ap, subst, ◌∙◌, append_assoc, arith, inl, inr, ◌⊎◌, ◌==◌, nat_lt, nat_le, flat_map, AllByRecursion, Width, w16, w32, w64, byte_len, from_be_bytes, to_be_bytes, cases_lt, eqb-true, ltb-false, le-ltb, nat_tests, take_at, drop_at, take-append-drop, length-replicate, length-take, get_or-drop, get_or-take, get_or_past, append-nil, nil_from_length, be_bytes_2, be_bytes_4, be_bytes_8, from_be_bytes-to_be_bytes_2, from_be_bytes-to_be_bytes_4, from_be_bytes-to_be_bytes_8, IsVector, zeros, shown_amounts, IsShownVector, text, resource, flag, list_bytes, FitsListed, ◌>>=◌, number_at, byte_at, flag_of_byte, flag_at, text_at, amount_at, amounts_at, pair_at, passing_at, times_at, all_at, counted_at}
-use Rattle.std.proofs.lemmas.List.{length-append}
+-- The laws of fields: what is read is spelled so and within its bounds, what is spelled is read again, and it is bytes.
+use Rattle.cap_grammar.proofs.Prelude.{Bool, List, None, Option, Some, [], ap, append_assoc, arith, cond, drop, false, get_or, inl, inr, length, length-append, refl, subst, suc, sym, take, true, zero, ℕ, ◌++◌, ◌+◌, ◌-◌, ◌<◌, ◌^◌, ◌∙◌, ◌∷◌, ◌≡◌, ◌≤◌, ◌⊎◌, cases_lt, eqb-true, le-ltb, ltb-false, nat_tests, append-nil, drop_at, get_or-append-add, get_or-take, get_or_past, length-replicate, length-take, nil_from_length, take-append-drop, take_at, All-nil, be_bytes_2, be_bytes_4, be_bytes_8, from_be_bytes-to_be_bytes_2, from_be_bytes-to_be_bytes_4, from_be_bytes-to_be_bytes_8, Width, byte_len, from_be_bytes, to_be_bytes, w16, w32, w64, AllByRecursion, flat_map, nat_le, nat_lt, ◌==◌, IsBytes, Field, bool, counted, made, nothing, number, pair, text_that, u16, u32, u64, u8, vector, all_at, byte_at, flag_at, flag_of_byte, number_at, pair_at, passing_at, text_at, times_at, ◌>>=◌, amount_at, amounts_at, counted_at, IsShownVector, shown_amounts, flag, limit, text, resource, IsVector, zeros}
+use Rattle.cap_grammar.proofs.SpelledBytes.{Small, one, both, two, word, long, a_flag}
 
 abbrev pub AreBytes : List ℕ → Type 0
 AreBytes bytes = (i : ℕ) → get_or bytes i 0 < 256
 
-AreBytes-drop : (n : ℕ) (bytes : List ℕ) → AreBytes bytes → AreBytes (drop n bytes)
-AreBytes-drop n bytes h i = rw get_or-drop (h (n + i))
+pub AreBytes-past : (front bytes rest : List ℕ) → bytes ≡ front ++ rest → AreBytes bytes → AreBytes rest
+AreBytes-past front bytes rest e h i = subst (λ n. n < 256) (get_or-append-add front rest i 0) (subst (λ (b : List ℕ). get_or b (length front + i) 0 < 256) e (h (length front + i)))
 
 AreBytes-take : (n : ℕ) (bytes : List ℕ) → AreBytes bytes → AreBytes (take n bytes)
 AreBytes-take n bytes h i =
@@ -14,9 +14,6 @@ AreBytes-take n bytes h i =
       | inl lt ↦ rw (get_or-take n bytes i 0 lt) (h i)
       | inr le ↦ rw (get_or_past (take n bytes) i 0 (omega (arith, length-take n bytes))) (omega arith)
     ]
-
-AreBytes-rest : (b : ℕ) (bytes : List ℕ) → AreBytes (b ∷ bytes) → AreBytes bytes
-AreBytes-rest b bytes h i = h (suc i)
 
 -- the value of a step that did not fail
 pub bind_some : {A B : Type 0} (r : Option A) (f : A → Option B) (y : B) → (r >>= f) ≡ Some y → (x : A) × (r ≡ Some x) × (f x ≡ Some y)
@@ -45,102 +42,153 @@ chosen false x y z e = inr (refl, e)
 pub some_is : {A : Type 0} (x y : A) (o : Option A) → o ≡ Some x → o ≡ Some y → x ≡ y
 some_is x y o e f = cc
 
--- what a reader took from the front
-pub record Takes (bytes spelled rest : List ℕ) : Type 0 where
-  pub parts : bytes ≡ spelled ++ rest
-  pub rest_fits : AreBytes rest
-
-pub Takes-then : (a x b y c : List ℕ) → Takes a x b → Takes b y c → Takes a (x ++ y) c
-Takes-then a x b y c p q = record { parts = p.parts ∙ ap (λ (t : List ℕ). x ++ t) q.parts ∙ sym (append_assoc x y c); rest_fits = q.rest_fits }
-
--- a reader and the spelling of what it reads
-pub record IsField {A : Type 0} (field : List ℕ → Option (A × List ℕ)) (spell : A → List ℕ) (Fits : A → Type 0) : Type 0 where
-  pub takes : (bytes : List ℕ) (x : A) (rest : List ℕ) → AreBytes bytes → field bytes ≡ Some (x, rest) → Takes bytes (spell x) rest × Fits x
-  pub again : (x : A) (rest : List ℕ) → Fits x → field (spell x ++ rest) ≡ Some (x, rest)
+-- the laws of a field
+pub record IsField {A : Type 0} (f : Field A) : Type 0 where
+  pub takes : (bytes : List ℕ) (x : A) (rest : List ℕ) → AreBytes bytes → f.read bytes ≡ Some (x, rest) → (bytes ≡ f.spell x ++ rest) × f.Fits x
+  pub again : (x : A) (rest : List ℕ) → f.Fits x → f.read (f.spell x ++ rest) ≡ Some (x, rest)
+  pub bytes : (x : A) → f.Fits x → IsBytes (f.spell x)
 
 -- ---- putting fields together
 
--- the same bounds in other words
-pub is_field_of : {A : Type 0} (f : List ℕ → Option (A × List ℕ)) (s : A → List ℕ) (F G : A → Type 0) → IsField f s F → ((x : A) → F x → G x) → ((x : A) → G x → F x) → IsField f s G
-is_field_of f s F G is to from = record {
-  takes = λ bytes x rest fits e. let t = is.takes bytes x rest fits e in (t.0, to x t.1);
-  again = λ x rest fits. is.again x rest (from x fits);
-}
+-- one spelling after the other
+joined : (a x b y c : List ℕ) → a ≡ x ++ b → b ≡ y ++ c → a ≡ (x ++ y) ++ c
+joined a x b y c p q = p ∙ ap (λ (t : List ℕ). x ++ t) q ∙ sym (append_assoc x y c)
 
-pub is_pair : {A B : Type 0} (f : List ℕ → Option (A × List ℕ)) (s : A → List ℕ) (F : A → Type 0) (g : List ℕ → Option (B × List ℕ)) (t : B → List ℕ) (G : B → Type 0)
-    → IsField f s F → IsField g t G → IsField (pair_at f g) (λ (x : A × B). s x.0 ++ t x.1) (λ (x : A × B). F x.0 × G x.1)
-is_pair {A} {B} f s F g t G one two = record {
+pub is_pair : {A B : Type 0} {f : Field A} {g : Field B} → IsField f → IsField g → IsField (pair f g)
+is_pair {A} {B} {f} {g} is is' = record {
   takes = λ bytes x rest fits e.
-      let a = bind_some (f bytes) (λ u. g u.1 >>= λ v. Some ((u.0, v.0), v.1)) (x, rest) e in
-      let b = bind_some (g a.0.1) (λ v. Some ((a.0.0, v.0), v.1)) (x, rest) a.2 in
-      let first = one.takes bytes a.0.0 a.0.1 fits a.1 in
-      let second = two.takes a.0.1 b.0.0 b.0.1 first.0.rest_fits b.1 in
+      let a = bind_some (f.read bytes) (λ u. g.read u.1 >>= λ v. Some ((u.0, v.0), v.1)) (x, rest) e in
+      let b = bind_some (g.read a.0.1) (λ v. Some ((a.0.0, v.0), v.1)) (x, rest) a.2 in
+      let first = is.takes bytes a.0.0 a.0.1 fits a.1 in
+      let second = is'.takes a.0.1 b.0.0 b.0.1 (AreBytes-past (f.spell a.0.0) bytes a.0.1 first.0 fits) b.1 in
       let made : (A × B) × List ℕ = ((a.0.0, b.0.0), b.0.1) in
-      let is : made ≡ (x, rest) = cc (b.2) in
-      subst (λ (y : (A × B) × List ℕ). Takes bytes (s y.0.0 ++ t y.0.1) y.1 × (F y.0.0 × G y.0.1)) is (Takes-then bytes (s a.0.0) a.0.1 (t b.0.0) b.0.1 first.0 second.0, (first.1, second.1));
-  again = λ x rest fits. ap (pair_at f g) (append_assoc (s x.0) (t x.1) rest) ∙ rw (one.again x.0 (t x.1 ++ rest) fits.0, two.again x.1 rest fits.1) refl;
+      let same : made ≡ (x, rest) = cc (b.2) in
+      subst (λ (y : (A × B) × List ℕ). (bytes ≡ (f.spell y.0.0 ++ g.spell y.0.1) ++ y.1) × (f.Fits y.0.0 × g.Fits y.0.1)) same (joined bytes (f.spell a.0.0) a.0.1 (g.spell b.0.0) b.0.1 first.0 second.0, (first.1, second.1));
+  again = λ x rest fits. ap (pair_at f.read g.read) (append_assoc (f.spell x.0) (g.spell x.1) rest) ∙ rw (is.again x.0 (g.spell x.1 ++ rest) fits.0, is'.again x.1 rest fits.1) refl;
+  bytes = λ x fits. both (f.spell x.0) (g.spell x.1) (is.bytes x.0 fits.0) (is'.bytes x.1 fits.1);
 }
 
-pub is_passing : {A : Type 0} (test : A → Bool) (f : List ℕ → Option (A × List ℕ)) (s : A → List ℕ) (F : A → Type 0) → IsField f s F → IsField (passing_at test f) s (λ (x : A). F x × (test x ≡ true))
-is_passing {A} test f s F is = record {
+-- a field that passes a test
+abbrev pub passing : {A : Type 0} → (A → Bool) → Field A → Field A
+passing test f = record { read = passing_at test f.read; spell = f.spell; Fits = λ x. f.Fits x × (test x ≡ true) }
+
+pub is_passing : {A : Type 0} (test : A → Bool) {f : Field A} → IsField f → IsField (passing test f)
+is_passing {A} test {f} is = record {
   takes = λ bytes x rest fits e.
-      let a = bind_some (f bytes) (λ u. cond (test u.0) (Some u) None) (x, rest) e in
+      let a = bind_some (f.read bytes) (λ u. cond (test u.0) (Some u) None) (x, rest) e in
       let g = guard_then (test a.0.0) (Some a.0) (x, rest) a.2 in
       let same : a.0 ≡ (x, rest) = cc (g.1) in
       let t = is.takes bytes a.0.0 a.0.1 fits a.1 in
-      subst (λ (y : A × List ℕ). Takes bytes (s y.0) y.1 × (F y.0 × (test y.0 ≡ true))) same (t.0, (t.1, g.0));
+      subst (λ (y : A × List ℕ). (bytes ≡ f.spell y.0 ++ y.1) × (f.Fits y.0 × (test y.0 ≡ true))) same (t.0, (t.1, g.0));
   again = λ x rest fits. rw (is.again x rest fits.0, fits.1) refl;
+  bytes = λ x fits. is.bytes x fits.0;
 }
 
-times_takes : {A : Type 0} (f : List ℕ → Option (A × List ℕ)) (s : A → List ℕ) (F : A → Type 0) → IsField f s F → (n : ℕ) (bytes : List ℕ) (xs : List A) (rest : List ℕ) → AreBytes bytes → times_at n f bytes ≡ Some (xs, rest) → Takes bytes (flat_map s xs) rest × ((length xs ≡ n) × AllByRecursion F xs)
-times_takes {A} f s F is zero bytes xs rest fits e =
-    let made : List A × List ℕ = ([], bytes) in
-    let same : made ≡ (xs, rest) = cc (e) in
-    subst (λ (y : List A × List ℕ). Takes bytes (flat_map s y.0) y.1 × ((length y.0 ≡ 0) × AllByRecursion F y.0)) same (record { parts = refl; rest_fits = fits }, (refl, tt))
-times_takes {A} f s F is (suc n) bytes xs rest fits e =
-    let a = bind_some (f bytes) (λ u. times_at n f u.1 >>= λ v. Some (u.0 ∷ v.0, v.1)) (xs, rest) e in
-    let b = bind_some (times_at n f a.0.1) (λ v. Some (a.0.0 ∷ v.0, v.1)) (xs, rest) a.2 in
-    let first = is.takes bytes a.0.0 a.0.1 fits a.1 in
-    let more = times_takes f s F is n a.0.1 b.0.0 b.0.1 first.0.rest_fits b.1 in
-    let made : List A × List ℕ = (a.0.0 ∷ b.0.0, b.0.1) in
-    let same : made ≡ (xs, rest) = cc (b.2) in
-    subst (λ (y : List A × List ℕ). Takes bytes (flat_map s y.0) y.1 × ((length y.0 ≡ suc n) × AllByRecursion F y.0)) same (Takes-then bytes (s a.0.0) a.0.1 (flat_map s b.0.0) b.0.1 first.0 more.0, (ap suc more.1.0, (first.1, more.1.1)))
+-- n fields
+abbrev pub times : {A : Type 0} → ℕ → Field A → Field (List A)
+times n f = record { read = times_at n f.read; spell = flat_map f.spell; Fits = λ xs. (length xs ≡ n) × AllByRecursion f.Fits xs }
 
-times_again : {A : Type 0} (f : List ℕ → Option (A × List ℕ)) (s : A → List ℕ) (F : A → Type 0) → IsField f s F → (n : ℕ) (xs : List A) (rest : List ℕ) → (length xs ≡ n) × AllByRecursion F xs → times_at n f (flat_map s xs ++ rest) ≡ Some (xs, rest)
-times_again f s F is zero [] rest fits = refl
-times_again f s F is zero (x ∷ xs) rest fits = absurd (omega (arith, fits.0))
-times_again f s F is (suc n) [] rest fits = absurd (omega (arith, fits.0))
-times_again f s F is (suc n) (x ∷ xs) rest fits =
-    let len : length xs ≡ n = omega (arith, fits.0) in
-    ap (times_at (suc n) f) (append_assoc (s x) (flat_map s xs) rest) ∙ rw (is.again x (flat_map s xs ++ rest) fits.1.0, times_again f s F is n xs rest (len, fits.1.1)) refl
+module _ {A : Type 0} (f : Field A) (is : IsField f) where
+  times_takes : (n : ℕ) (bytes : List ℕ) (xs : List A) (rest : List ℕ) → AreBytes bytes → times_at n f.read bytes ≡ Some (xs, rest) → (bytes ≡ flat_map f.spell xs ++ rest) × ((length xs ≡ n) × AllByRecursion f.Fits xs)
+  times_takes zero bytes xs rest fits e =
+      let made : List A × List ℕ = ([], bytes) in
+      let same : made ≡ (xs, rest) = cc (e) in
+      subst (λ (y : List A × List ℕ). (bytes ≡ flat_map f.spell y.0 ++ y.1) × ((length y.0 ≡ 0) × AllByRecursion f.Fits y.0)) same (refl, (refl, tt))
+  times_takes (suc n) bytes xs rest fits e =
+      let a = bind_some (f.read bytes) (λ u. times_at n f.read u.1 >>= λ v. Some (u.0 ∷ v.0, v.1)) (xs, rest) e in
+      let b = bind_some (times_at n f.read a.0.1) (λ v. Some (a.0.0 ∷ v.0, v.1)) (xs, rest) a.2 in
+      let first = is.takes bytes a.0.0 a.0.1 fits a.1 in
+      let more = times_takes n a.0.1 b.0.0 b.0.1 (AreBytes-past (f.spell a.0.0) bytes a.0.1 first.0 fits) b.1 in
+      let made : List A × List ℕ = (a.0.0 ∷ b.0.0, b.0.1) in
+      let same : made ≡ (xs, rest) = cc (b.2) in
+      subst (λ (y : List A × List ℕ). (bytes ≡ flat_map f.spell y.0 ++ y.1) × ((length y.0 ≡ suc n) × AllByRecursion f.Fits y.0)) same (joined bytes (f.spell a.0.0) a.0.1 (flat_map f.spell b.0.0) b.0.1 first.0 more.0, (ap suc more.1.0, (first.1, more.1.1)))
 
-pub is_times : {A : Type 0} (n : ℕ) (f : List ℕ → Option (A × List ℕ)) (s : A → List ℕ) (F : A → Type 0) → IsField f s F → IsField (times_at n f) (flat_map s) (λ (xs : List A). (length xs ≡ n) × AllByRecursion F xs)
-is_times n f s F is = record { takes = times_takes f s F is n; again = times_again f s F is n }
+  times_again : (n : ℕ) (xs : List A) (rest : List ℕ) → (length xs ≡ n) × AllByRecursion f.Fits xs → times_at n f.read (flat_map f.spell xs ++ rest) ≡ Some (xs, rest)
+  times_again zero [] rest fits = refl
+  times_again zero (x ∷ xs) rest fits = absurd (omega (arith, fits.0))
+  times_again (suc n) [] rest fits = absurd (omega (arith, fits.0))
+  times_again (suc n) (x ∷ xs) rest fits =
+      let len : length xs ≡ n = omega (arith, fits.0) in
+      ap (times_at (suc n) f.read) (append_assoc (f.spell x) (flat_map f.spell xs) rest) ∙ rw (is.again x (flat_map f.spell xs ++ rest) fits.1.0, times_again n xs rest (len, fits.1.1)) refl
 
-pub all_takes : {A : Type 0} (f : List ℕ → Option (A × List ℕ)) (s : A → List ℕ) (F : A → Type 0) → IsField f s F → (bytes : List ℕ) (x : A) → AreBytes bytes → all_at f bytes ≡ Some x → (bytes ≡ s x) × F x
-all_takes {A} f s F is bytes x fits e =
-    let a = bind_some (f bytes) (λ u. cond (length u.1 == 0) (Some u.0) None) x e in
-    let g = guard_then (length a.0.1 == 0) (Some a.0.0) x a.2 in
-    let empty : a.0.1 ≡ [] = nil_from_length a.0.1 (grind (arith, nat_tests)) in
-    let t = is.takes bytes a.0.0 a.0.1 fits a.1 in
-    let same : a.0.0 ≡ x = cc (g.1) in
-    let whole : bytes ≡ s a.0.0 = t.0.parts ∙ ap (λ (r : List ℕ). s a.0.0 ++ r) empty ∙ append-nil (s a.0.0) in
-    subst (λ (y : A). (bytes ≡ s y) × F y) same (whole, t.1)
+  times_bytes : (xs : List A) → AllByRecursion f.Fits xs → IsBytes (flat_map f.spell xs)
+  times_bytes [] fits = All-nil Small
+  times_bytes (x ∷ xs) fits = both (f.spell x) (flat_map f.spell xs) (is.bytes x fits.0) (times_bytes xs fits.1)
 
-pub all_again : {A : Type 0} (f : List ℕ → Option (A × List ℕ)) (s : A → List ℕ) (F : A → Type 0) → IsField f s F → (x : A) → F x → all_at f (s x) ≡ Some x
-all_again f s F is x fits = ap (all_at f) (sym (append-nil (s x))) ∙ rw (is.again x [] fits) refl
+pub is_times : {A : Type 0} (n : ℕ) {f : Field A} → IsField f → IsField (times n f)
+is_times n {f} is = record { takes = times_takes f is n; again = times_again f is n; bytes = λ xs fits. times_bytes f is xs fits.1 }
+
+-- at most so many, with their number before them
+pub is_counted : {A : Type 0} (most : ℕ) {number : Field ℕ} {f : Field A} → ((n : ℕ) → n ≤ most → number.Fits n) → IsField number → IsField f → IsField (counted number most f)
+unfolding counted_at
+is_counted {A} most {number} {f} small is_number is =
+    let count = is_passing (λ n. nat_le n most) is_number in
+    record {
+      takes = λ bytes xs rest fits e.
+          let a = bind_some (passing_at (λ n. nat_le n most) number.read bytes) (λ n. times_at n.0 f.read n.1) (xs, rest) e in
+          let first = count.takes bytes a.0.0 a.0.1 fits a.1 in
+          let more = times_takes f is a.0.0 a.0.1 xs rest (AreBytes-past (number.spell a.0.0) bytes a.0.1 first.0 fits) a.2 in
+          let len : a.0.0 ≡ length xs = sym more.1.0 in
+          let passed : nat_le a.0.0 most ≡ true = first.1.1 in (
+            subst (λ n. bytes ≡ (number.spell n ++ flat_map f.spell xs) ++ rest) len (joined bytes (number.spell a.0.0) a.0.1 (flat_map f.spell xs) rest first.0 more.0),
+            record { few = grind (arith, nat_tests, passed, len); each = more.1.1 },
+          );
+      again = λ xs rest fits.
+          let few : length xs ≤ most = fits.few in
+          let passes : nat_le (length xs) most ≡ true = grind (arith, nat_tests, few) in
+          ap (counted_at number.read most f.read) (append_assoc (number.spell (length xs)) (flat_map f.spell xs) rest)
+          ∙ ap (λ (o : Option (ℕ × List ℕ)). o >>= λ n. times_at n.0 f.read n.1) (count.again (length xs) (flat_map f.spell xs ++ rest) (small (length xs) few, passes))
+          ∙ times_again f is (length xs) xs rest (refl, fits.each);
+      bytes = λ xs fits. both (number.spell (length xs)) (flat_map f.spell xs) (is_number.bytes (length xs) (small (length xs) fits.few)) (times_bytes f is xs fits.each);
+    }
+
+-- two types of values, each made of the other within its bounds
+pub record AreMade {A B : Type 0} (make : A → B) (parts : B → A) (F : A → Type 0) (G : B → Type 0) : Type 0 where
+  pub back : (x : A) → F x → parts (make x) ≡ x
+  pub forth : (y : B) → G y → make (parts y) ≡ y
+  pub to : (x : A) → F x → G (make x)
+  pub from : (y : B) → G y → F (parts y)
+
+-- what is made of a field's value
+pub is_made : {A B : Type 0} (make : A → B) (parts : B → A) (G : B → Type 0) {f : Field A} → AreMade make parts f.Fits G → IsField f → IsField (made make parts G f)
+is_made {A} {B} make parts G {f} are is = record {
+  takes = λ bytes y rest fits e.
+      let a = bind_some (f.read bytes) (λ x. Some (make x.0, x.1)) (y, rest) e in
+      let t = is.takes bytes a.0.0 a.0.1 fits a.1 in
+      let made : B × List ℕ = (make a.0.0, a.0.1) in
+      let same : made ≡ (y, rest) = cc (a.2) in
+      let spelled : bytes ≡ f.spell (parts (make a.0.0)) ++ a.0.1 = rw (are.back a.0.0 t.1) t.0 in
+      subst (λ (p : B × List ℕ). (bytes ≡ f.spell (parts p.0) ++ p.1) × G p.0) same (spelled, are.to a.0.0 t.1);
+  again = λ y rest fits. ap (λ (o : Option (A × List ℕ)). o >>= λ x. Some (make x.0, x.1)) (is.again (parts y) rest (are.from y fits)) ∙ ap (λ (z : B). Some (z, rest)) (are.forth y fits);
+  bytes = λ y fits. is.bytes (parts y) (are.from y fits);
+}
+
+-- what is read of all of the bytes
+pub all_read : {A : Type 0} (read : List ℕ → Option (A × List ℕ)) (bytes : List ℕ) (x : A) → all_at read bytes ≡ Some x → read bytes ≡ Some (x, [])
+all_read {A} read bytes x e =
+    bind_then (read bytes) (λ u. cond (length u.1 == 0) (Some u.0) None) x e (λ u at is.
+    let g = guard_then (length u.1 == 0) (Some u.0) x is in
+    let empty : u.1 ≡ [] = nil_from_length u.1 (grind (arith, nat_tests)) in
+    let same : u.0 ≡ x = cc (g.1) in
+    at ∙ ap (λ (r : List ℕ). Some (u.0, r)) empty ∙ ap (λ (y : A). Some (y, [])) same)
+
+pub all_again : {A : Type 0} (read : List ℕ → Option (A × List ℕ)) (spelled : List ℕ) (x : A) → ((rest : List ℕ) → read (spelled ++ rest) ≡ Some (x, rest)) → all_at read spelled ≡ Some x
+all_again read spelled x again = ap (all_at read) (sym (append-nil spelled)) ∙ rw (again []) refl
 
 -- ---- bytes and numbers
 
-byte_takes : (bytes : List ℕ) (b : ℕ) (rest : List ℕ) → AreBytes bytes → byte_at bytes ≡ Some (b, rest) → Takes bytes (b ∷ []) rest × (b < 256)
-byte_takes [] b rest fits e = absurd cc
-byte_takes (x ∷ xs) b rest fits e =
-    let made : ℕ × List ℕ = (x, xs) in
-    let same : made ≡ (b, rest) = cc (e) in
-    subst (λ (p : ℕ × List ℕ). Takes (x ∷ xs) (p.0 ∷ []) p.1 × (p.0 < 256)) same (record { parts = refl; rest_fits = AreBytes-rest x xs fits }, fits 0)
+pub is_nothing : IsField nothing
+is_nothing = record { takes = λ bytes x rest fits e. let made : Unit {0} × List ℕ = (tt, bytes) in let same : made ≡ (x, rest) = cc e in (ap (λ (p : Unit {0} × List ℕ). p.1) same, tt); again = λ x rest fits. refl; bytes = λ x fits. All-nil Small }
 
-pub is_byte : IsField byte_at (λ b. b ∷ []) (λ b. b < 256)
-is_byte = record { takes = byte_takes; again = λ b rest fits. refl }
+pub is_u8 : IsField u8
+is_u8 = record { takes = takes; again = λ b rest fits. refl; bytes = λ b fits. one b [] fits (All-nil Small) }
+  where
+    takes : (bytes : List ℕ) (b : ℕ) (rest : List ℕ) → AreBytes bytes → byte_at bytes ≡ Some (b, rest) → (bytes ≡ b ∷ rest) × (b < 256)
+    takes [] b rest fits e = absurd cc
+    takes (x ∷ xs) b rest fits e =
+        let made : ℕ × List ℕ = (x, xs) in
+        let same : made ≡ (b, rest) = cc (e) in
+        subst (λ (p : ℕ × List ℕ). (x ∷ xs ≡ p.0 ∷ p.1) × (p.0 < 256)) same (refl, fits 0)
 
 flag_byte : (b : ℕ) (holds : Bool) → flag_of_byte b ≡ Some holds → b ∷ [] ≡ flag holds
 flag_byte b holds e =
@@ -151,61 +199,64 @@ flag_byte b holds e =
           let same : true ≡ holds = cc (g.1) in rw (← same, eqb-true b 1 g.0) refl
     ]
 
-flag_takes : (bytes : List ℕ) (holds : Bool) (rest : List ℕ) → AreBytes bytes → flag_at bytes ≡ Some (holds, rest) → Takes bytes (flag holds) rest × Unit {0}
+flag_takes : (bytes : List ℕ) (holds : Bool) (rest : List ℕ) → AreBytes bytes → flag_at bytes ≡ Some (holds, rest) → (bytes ≡ flag holds ++ rest) × Unit {0}
 flag_takes bytes holds rest fits e =
     let a = bind_some (byte_at bytes) (λ u. flag_of_byte u.0 >>= λ v. Some (v, u.1)) (holds, rest) e in
     let b = bind_some (flag_of_byte a.0.0) (λ v. Some (v, a.0.1)) (holds, rest) a.2 in
-    let t = byte_takes bytes a.0.0 a.0.1 fits a.1 in
+    let t = is_u8.takes bytes a.0.0 a.0.1 fits a.1 in
     let made : Bool × List ℕ = (b.0, a.0.1) in
     let same : made ≡ (holds, rest) = cc (b.2) in
-    let spelled : Takes bytes (flag b.0) a.0.1 = subst (λ (s : List ℕ). Takes bytes s a.0.1) (flag_byte a.0.0 b.0 b.1) t.0 in
-    subst (λ (p : Bool × List ℕ). Takes bytes (flag p.0) p.1 × Unit {0}) same (spelled, tt)
+    subst (λ (p : Bool × List ℕ). (bytes ≡ flag p.0 ++ p.1) × Unit {0}) same (subst (λ (s : List ℕ). bytes ≡ s ++ a.0.1) (flag_byte a.0.0 b.0 b.1) t.0, tt)
 
 flag_again : (holds : Bool) (rest : List ℕ) → flag_at (flag holds ++ rest) ≡ Some (holds, rest)
 flag_again false rest = refl
 flag_again true rest = refl
 
-pub is_flag : IsField flag_at flag (λ holds. Unit {0})
-is_flag = record { takes = flag_takes; again = λ holds rest fits. flag_again holds rest }
+pub is_bool : IsField bool
+is_bool = record { takes = flag_takes; again = λ holds rest fits. flag_again holds rest; bytes = λ holds fits. a_flag holds }
 
-pub record IsWide (w : Width) (limit : ℕ) : Type 0 where
+record IsWide (w : Width) (limit : ℕ) : Type 0 where
   pub len : (n : ℕ) → length (to_be_bytes w n) ≡ byte_len w
   pub back : (bytes : List ℕ) → length bytes ≡ byte_len w → AreBytes bytes → to_be_bytes w (from_be_bytes w bytes) ≡ bytes
   pub again : (n : ℕ) → n < limit → from_be_bytes w (to_be_bytes w n) ≡ n
   pub below : (bytes : List ℕ) → AreBytes bytes → from_be_bytes w bytes < limit
+  pub bytes : (n : ℕ) → IsBytes (to_be_bytes w n)
 
-pub wide16 : IsWide w16 (2 ^ 16)
+wide16 : IsWide w16 (2 ^ 16)
 wide16 = record {
   len = λ n. refl;
   back = λ bytes len fits. be_bytes_2 bytes _ len fits refl;
   again = λ n lt. from_be_bytes-to_be_bytes_2 n lt;
   below = λ bytes fits. omega (arith, fits 0, fits 1);
+  bytes = two;
 }
 
-pub wide32 : IsWide w32 (2 ^ 32)
+wide32 : IsWide w32 (2 ^ 32)
 wide32 = record {
   len = λ n. refl;
   back = λ bytes len fits. be_bytes_4 bytes _ len fits refl;
   again = λ n lt. from_be_bytes-to_be_bytes_4 n lt;
   below = λ bytes fits. omega (arith, fits 0, fits 1, fits 2, fits 3);
+  bytes = word;
 }
 
-pub wide64 : IsWide w64 (2 ^ 64)
+wide64 : IsWide w64 (2 ^ 64)
 wide64 = record {
   len = λ n. refl;
   back = λ bytes len fits. be_bytes_8 bytes _ len fits refl;
   again = λ n lt. from_be_bytes-to_be_bytes_8 n lt;
   below = λ bytes fits. omega (arith, fits 0, fits 1, fits 2, fits 3, fits 4, fits 5, fits 6, fits 7);
+  bytes = long;
 }
 
-number_takes : (w : Width) (limit : ℕ) (wide : IsWide w limit) (bytes : List ℕ) (n : ℕ) (rest : List ℕ) → AreBytes bytes → number_at w bytes ≡ Some (n, rest) → Takes bytes (to_be_bytes w n) rest × (n < limit)
+number_takes : (w : Width) (limit : ℕ) (wide : IsWide w limit) (bytes : List ℕ) (n : ℕ) (rest : List ℕ) → AreBytes bytes → number_at w bytes ≡ Some (n, rest) → (bytes ≡ to_be_bytes w n ++ rest) × (n < limit)
 number_takes w limit wide bytes n rest fits e =
     let g = guard_else (nat_lt (length bytes) (byte_len w)) (from_be_bytes w (take (byte_len w) bytes), drop (byte_len w) bytes) (n, rest) e in
     let long : byte_len w ≤ length bytes = ltb-false _ _ g.0 in
     let n-is : from_be_bytes w (take (byte_len w) bytes) ≡ n = ap (λ (p : ℕ × List ℕ). p.0) g.1 in
     let rest-is : drop (byte_len w) bytes ≡ rest = ap (λ (p : ℕ × List ℕ). p.1) g.1 in
     let front : to_be_bytes w n ≡ take (byte_len w) bytes = rw (← n-is) (wide.back (take (byte_len w) bytes) (omega (arith, length-take (byte_len w) bytes)) (AreBytes-take (byte_len w) bytes fits)) in
-    (record { parts = rw (front, ← rest-is) (sym (take-append-drop (byte_len w) bytes)); rest_fits = rw (← rest-is) (AreBytes-drop (byte_len w) bytes fits) }, rw (← n-is) (wide.below (take (byte_len w) bytes) (AreBytes-take (byte_len w) bytes fits)))
+    (rw (front, ← rest-is) (sym (take-append-drop (byte_len w) bytes)), rw (← n-is) (wide.below (take (byte_len w) bytes) (AreBytes-take (byte_len w) bytes fits)))
 
 number_again : (w : Width) (limit : ℕ) (wide : IsWide w limit) (n : ℕ) (rest : List ℕ) → n < limit → number_at w (to_be_bytes w n ++ rest) ≡ Some (n, rest)
 number_again w limit wide n rest lt =
@@ -213,106 +264,50 @@ number_again w limit wide n rest lt =
     let long : nat_lt (length (to_be_bytes w n ++ rest)) (byte_len w) ≡ false = le-ltb _ _ (omega (arith, length-append (to_be_bytes w n) rest)) in
     rw (long, take_at (to_be_bytes w n) rest (byte_len w) len, drop_at (to_be_bytes w n) rest (byte_len w) len, wide.again n lt) refl
 
-pub is_number : (w : Width) (limit : ℕ) → IsWide w limit → IsField (number_at w) (to_be_bytes w) (λ n. n < limit)
-is_number w limit wide = record { takes = number_takes w limit wide; again = number_again w limit wide }
+is_number : (w : Width) (limit : ℕ) → IsWide w limit → IsField (number w limit)
+is_number w limit wide = record { takes = number_takes w limit wide; again = number_again w limit wide; bytes = λ n fits. wide.bytes n }
 
-pub is_u32 : IsField (number_at w32) (to_be_bytes w32) (λ n. n < 2 ^ 32)
-is_u32 = is_number w32 (2 ^ 32) wide32
-
-pub is_u64 : IsField (number_at w64) (to_be_bytes w64) (λ n. n < 2 ^ 64)
-is_u64 = is_number w64 (2 ^ 64) wide64
-
--- ---- lists
-
--- two types of values, each made of the other within its bounds
-pub record AreMade {A B : Type 0} (f : A → B) (g : B → A) (F : A → Type 0) (G : B → Type 0) : Type 0 where
-  pub back : (x : A) → F x → g (f x) ≡ x
-  pub forth : (y : B) → G y → f (g y) ≡ y
-  pub to : (x : A) → F x → G (f x)
-  pub from : (y : B) → G y → F (g y)
-
--- a field whose value is made of another's
-pub is_made : {A B : Type 0} (f : A → B) (g : B → A) (field : List ℕ → Option (A × List ℕ)) (s : A → List ℕ) (F : A → Type 0) (G : B → Type 0) → AreMade f g F G → IsField field s F →
-    IsField (λ bytes. field bytes >>= λ x. Some (f x.0, x.1)) (λ y. s (g y)) G
-is_made {A} {B} f g field s F G made_of is = record {
-  takes = λ bytes y rest fits e.
-      let a = bind_some (field bytes) (λ x. Some (f x.0, x.1)) (y, rest) e in
-      let t = is.takes bytes a.0.0 a.0.1 fits a.1 in
-      let made : B × List ℕ = (f a.0.0, a.0.1) in
-      let same : made ≡ (y, rest) = cc (a.2) in
-      let spelled : Takes bytes (s (g (f a.0.0))) a.0.1 = rw (made_of.back a.0.0 t.1) t.0 in
-      subst (λ (p : B × List ℕ). Takes bytes (s (g p.0)) p.1 × G p.0) same (spelled, made_of.to a.0.0 t.1);
-  again = λ y rest fits. ap (λ (o : Option (A × List ℕ)). o >>= λ x. Some (f x.0, x.1)) (is.again (g y) rest (made_of.from y fits)) ∙ ap (λ (z : B). Some (z, rest)) (made_of.forth y fits);
-}
-
-pub is_u16 : IsField (number_at w16) (to_be_bytes w16) (λ n. n < 2 ^ 16)
+pub is_u16 : IsField u16
 is_u16 = is_number w16 (2 ^ 16) wide16
 
-counted_takes : {A : Type 0} (w : Width) (limit : ℕ) (wide : IsWide w limit) (most : ℕ) (field : List ℕ → Option (A × List ℕ)) (s : A → List ℕ) (F : A → Type 0) → IsField field s F → (bytes : List ℕ) (xs : List A) (rest : List ℕ) → AreBytes bytes →
-    counted_at w most field bytes ≡ Some (xs, rest) → Takes bytes (list_bytes w s xs) rest × FitsListed most F xs
-unfolding counted_at list_bytes
-counted_takes {A} w limit wide most field s F is bytes xs rest fits e =
-    let count = is_passing (λ n. nat_le n most) (number_at w) (to_be_bytes w) (λ n. n < limit) (is_number w limit wide) in
-    let a = bind_some (passing_at (λ n. nat_le n most) (number_at w) bytes) (λ n. times_at n.0 field n.1) (xs, rest) e in
-    let first = count.takes bytes a.0.0 a.0.1 fits a.1 in
-    let more = (is_times a.0.0 field s F is).takes a.0.1 xs rest first.0.rest_fits a.2 in
-    let len : a.0.0 ≡ length xs = sym more.1.0 in
-    let small : nat_le a.0.0 most ≡ true = first.1.1 in (
-      subst (λ n. Takes bytes (to_be_bytes w n ++ flat_map s xs) rest) len (Takes-then bytes (to_be_bytes w a.0.0) a.0.1 (flat_map s xs) rest first.0 more.0),
-      record { few = grind (arith, nat_tests, small, len); each = more.1.1 },
-    )
+pub is_u32 : IsField u32
+is_u32 = is_number w32 (2 ^ 32) wide32
 
-counted_again : {A : Type 0} (w : Width) (limit : ℕ) (wide : IsWide w limit) (most : ℕ) (small : most < limit) (field : List ℕ → Option (A × List ℕ)) (s : A → List ℕ) (F : A → Type 0) → IsField field s F → (xs : List A) (rest : List ℕ) → FitsListed most F xs →
-    counted_at w most field (list_bytes w s xs ++ rest) ≡ Some (xs, rest)
-unfolding counted_at list_bytes
-counted_again {A} w limit wide most small field s F is xs rest fits =
-    let count = is_passing (λ n. nat_le n most) (number_at w) (to_be_bytes w) (λ n. n < limit) (is_number w limit wide) in
-    let few : length xs ≤ most = fits.few in
-    let passes : nat_le (length xs) most ≡ true = grind (arith, nat_tests, few) in
-    ap (λ (bs : List ℕ). passing_at (λ n. nat_le n most) (number_at w) bs >>= λ n. times_at n.0 field n.1) (append_assoc (to_be_bytes w (length xs)) (flat_map s xs) rest)
-    ∙ ap (λ (o : Option (ℕ × List ℕ)). o >>= λ n. times_at n.0 field n.1) (count.again (length xs) (flat_map s xs ++ rest) (omega (arith, few, small), passes))
-    ∙ (is_times (length xs) field s F is).again xs rest (refl, fits.each)
-
--- a list with its length before it
-pub is_counted : {A : Type 0} (w : Width) (limit : ℕ) → IsWide w limit → (most : ℕ) → most < limit → (field : List ℕ → Option (A × List ℕ)) (s : A → List ℕ) (F : A → Type 0) → IsField field s F →
-    IsField (counted_at w most field) (list_bytes w s) (FitsListed most F)
-is_counted w limit wide most small field s F is = record { takes = counted_takes w limit wide most field s F is; again = counted_again w limit wide most small field s F is }
+pub is_u64 : IsField u64
+is_u64 = is_number w64 (2 ^ 64) wide64
 
 -- ---- texts
 
-text_takes : (bytes t rest : List ℕ) → AreBytes bytes → text_at bytes ≡ Some (t, rest) → Takes bytes (text t) rest × Unit {0}
+text_takes : (bytes t rest : List ℕ) → AreBytes bytes → text_at bytes ≡ Some (t, rest) → bytes ≡ text t ++ rest
 text_takes [] t rest fits e = absurd cc
 text_takes (b ∷ bytes) t rest fits e =
     let g = guard_else (nat_lt (length bytes) b) (take b bytes, drop b bytes) (t, rest) e in
     let long : b ≤ length bytes = ltb-false _ _ g.0 in
     let len : length (take b bytes) ≡ b = omega (arith, length-take b bytes) in
     let whole : b ∷ bytes ≡ text (take b bytes) ++ drop b bytes = rw len (ap (λ (r : List ℕ). b ∷ r) (sym (take-append-drop b bytes))) in
-    subst (λ (p : List ℕ × List ℕ). Takes (b ∷ bytes) (text p.0) p.1 × Unit {0}) g.1 (record { parts = whole; rest_fits = AreBytes-drop b bytes (AreBytes-rest b bytes fits) }, tt)
+    subst (λ (p : List ℕ × List ℕ). b ∷ bytes ≡ text p.0 ++ p.1) g.1 whole
 
 text_again : (t rest : List ℕ) → text_at (text t ++ rest) ≡ Some (t, rest)
 text_again t rest =
     let long : nat_lt (length (t ++ rest)) (length t) ≡ false = le-ltb _ _ (omega (arith, length-append t rest)) in
     rw (long, take_at t rest (length t) refl, drop_at t rest (length t) refl) refl
 
-pub is_text_field : IsField text_at text (λ t. Unit {0})
-is_text_field = record { takes = text_takes; again = λ t rest fits. text_again t rest }
-
--- a text that passes a test
-pub is_text_passing : (test : List ℕ → Bool) → IsField (passing_at test text_at) text (λ t. test t ≡ true)
-is_text_passing test =
-    is_field_of (passing_at test text_at) text (λ t. Unit {0} × (test t ≡ true)) (λ t. test t ≡ true)
-    (is_passing test text_at text (λ t. Unit {0}) is_text_field)
-    (λ t h. h.1)
-    (λ t h. (tt, h))
+-- a text that passes a test, where what passes is short
+pub is_text_that : (test : List ℕ → Bool) → ((t : List ℕ) → test t ≡ true → IsBytes (text t)) → IsField (text_that test)
+is_text_that test short = record {
+  takes = λ bytes t rest fits e.
+      let a = bind_some (text_at bytes) (λ u. cond (test u.0) (Some u) None) (t, rest) e in
+      let g = guard_then (test a.0.0) (Some a.0) (t, rest) a.2 in
+      let same : a.0 ≡ (t, rest) = cc (g.1) in
+      subst (λ (y : List ℕ × List ℕ). (bytes ≡ text y.0 ++ y.1) × (test y.0 ≡ true)) same (text_takes bytes a.0.0 a.0.1 fits a.1, g.0);
+  again = λ t rest fits. rw (text_again t rest, fits) refl;
+  bytes = short;
+}
 
 -- ---- amounts
 
 abbrev FitsAmount : ℕ → ℕ → Type 0
 FitsAmount bound n = (n < 2 ^ 64) × (nat_le n bound ≡ true)
-
-is_amount : (bound : ℕ) → IsField (amount_at bound) (to_be_bytes w64) (FitsAmount bound)
-unfolding amount_at
-is_amount bound = is_passing (λ n. nat_le n bound) (number_at w64) (to_be_bytes w64) (λ n. n < 2 ^ 64) is_u64
 
 each_within : (bound : ℕ) → bound < 2 ^ 64 → (v : List ℕ) → ((i : ℕ) → get_or v i 0 ≤ bound) → AllByRecursion (FitsAmount bound) v
 each_within bound small [] h = tt
@@ -358,14 +353,14 @@ pub shown_is_vector : (k n bound : ℕ) → n ≤ k → bound < 2 ^ 64 → (v : 
 shown_is_vector k n bound le small v is =
     subst (λ m. IsShownVector k n bound (take n v ++ zeros (m - n))) (sym is.count) (padded k n bound le (take n v) (few_of k n bound le small v is))
 
-pub is_amounts : (k n bound : ℕ) → n ≤ k → bound < 2 ^ 64 → IsField (amounts_at k n bound) (resource n) (IsShownVector k n bound)
-unfolding amounts_at resource
-is_amounts k n bound le small =
-    is_made (λ v. v ++ zeros (k - n)) (take n) (times_at n (amount_at bound)) (flat_map (to_be_bytes w64)) (Few n bound) (IsShownVector k n bound)
+pub is_vector : (k n bound : ℕ) → n ≤ k → bound < 2 ^ 64 → IsField (vector k n bound)
+unfolding amounts_at amount_at resource
+is_vector k n bound le small =
+    is_made (λ v. v ++ zeros (k - n)) (take n) (IsShownVector k n bound)
     (record {
       back = λ v few. take_at v (zeros (k - n)) n few.0;
       forth = λ v is. subst (λ m. take n v ++ zeros (m - n) ≡ v) is.vector.count is.is_shown;
       to = padded k n bound le;
       from = λ v is. few_of k n bound le small v is.vector;
     })
-    (is_times n (amount_at bound) (to_be_bytes w64) (FitsAmount bound) (is_amount bound))
+    (is_times n (is_passing (λ n. nat_le n bound) is_u64))

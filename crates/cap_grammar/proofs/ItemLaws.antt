@@ -1,7 +1,6 @@
 -- Where the lists of a payload stand, and which are not empty.
-use Rattle.cap_grammar.proofs.Prelude.{◌≡◌, ℕ, zero, suc, ◌+◌, ◌<◌, Bool, true, List, [], ◌∷◌, length, take, drop, Option, Some, None, sym, ap, subst, ◌∙◌, arith, inl, inr, ◌⊎◌, nat_lt, nat_le, if◌then◌else◌, slice_index, Width, w16, w32, w64, byte_len, from_be_bytes, lt-ltb, drop-drop, holds_of, resources, is_version, byte_at, number_at, pair_at, passing_at, times_at, counted_at, HasItemsAt, ListsItems, CarriesItems, head_at}
+use Rattle.cap_grammar.proofs.Prelude.{Bool, List, None, Option, Some, [], ap, arith, drop, inl, inr, length, subst, suc, sym, take, true, zero, ℕ, ◌+◌, ◌<◌, ◌∙◌, ◌∷◌, ◌≡◌, ◌⊎◌, drop-drop, lt-ltb, Width, byte_len, from_be_bytes, w16, w32, w64, if◌then◌else◌, nat_le, nat_lt, slice_index, holds_of, resources, HasItemsAt, ListsItems, byte_at, number_at, pair_at, passing_at, times_at, counted_at, CarriesItems, a_head, is_version}
 use Rattle.cap_grammar.proofs.FieldLaws.{bind_then, guard_else, guard_then}
-use Rattle.cap_grammar.proofs.RequestLaws.{second_is_kind}
 use Rattle.cap_grammar.proofs.VersionLaws.{one_or_two}
 
 -- what stands after a number
@@ -20,7 +19,7 @@ pub has_items : (w : Width) (test : ℕ → Bool) (bytes : List ℕ) (n : ℕ) (
 has_items w test bytes n rest e some = ap (holds_of (λ x. nat_lt 0 x.0)) (passed w test bytes n rest e) ∙ lt-ltb 0 n some
 
 -- what stands after a list that may be empty
-pub items_or_rest : {A : Type 0} (most : ℕ) (field : List ℕ → Option (A × List ℕ)) (bytes : List ℕ) (xs : List A) (rest : List ℕ) → counted_at w16 most field bytes ≡ Some (xs, rest) → HasItemsAt w16 0 bytes ⊎ (rest ≡ drop 2 bytes)
+pub items_or_rest : {A : Type 0} (most : ℕ) (field : List ℕ → Option (A × List ℕ)) (bytes : List ℕ) (xs : List A) (rest : List ℕ) → counted_at (number_at w16) most field bytes ≡ Some (xs, rest) → HasItemsAt w16 0 bytes ⊎ (rest ≡ drop 2 bytes)
 unfolding counted_at
 items_or_rest {A} most field bytes xs rest e =
     bind_then (passing_at (λ n. nat_le n most) (number_at w16) bytes) (λ n. times_at n.0 field n.1) (xs, rest) e (λ n at is. by n.0 n.1 at is)
@@ -42,7 +41,7 @@ two_numbers bytes first second a b e f = number_rest w32 first b second f ∙ ap
 pub first_list : (bytes first second : List ℕ) (a b : ℕ) → number_at w64 bytes ≡ Some (a, first) → number_at w32 first ≡ Some (b, second) → HasItemsAt w16 0 second → HasItemsAt w16 12 bytes
 first_list bytes first second a b e f has = items_further w16 0 12 bytes second (two_numbers bytes first second a b e f) has
 
-pub second_list : {A : Type 0} (most : ℕ) (field : List ℕ → Option (A × List ℕ)) (bytes first second third : List ℕ) (a b : ℕ) (xs : List A) → number_at w64 bytes ≡ Some (a, first) → number_at w32 first ≡ Some (b, second) → counted_at w16 most field second ≡ Some (xs, third)
+pub second_list : {A : Type 0} (most : ℕ) (field : List ℕ → Option (A × List ℕ)) (bytes first second third : List ℕ) (a b : ℕ) (xs : List A) → number_at w64 bytes ≡ Some (a, first) → number_at w32 first ≡ Some (b, second) → counted_at (number_at w16) most field second ≡ Some (xs, third)
     → HasItemsAt w16 0 third → HasItemsAt w16 12 bytes ⊎ HasItemsAt w16 14 bytes
 second_list most field bytes first second third a b xs e f g has =
     elim (items_or_rest most field second xs third g) [
@@ -50,9 +49,9 @@ second_list most field bytes first second third a b xs e f g has =
       | inr after ↦ inr (items_further w16 0 14 bytes third (after ∙ ap (λ (x : List ℕ). drop 2 x) (two_numbers bytes first second a b e f) ∙ drop-drop 2 12 bytes) has)
     ]
 
--- the version is the first byte, and the body stands after six
-pub head_is : (bytes : List ℕ) (h : ℕ × (ℕ × ℕ)) (rest : List ℕ) → head_at bytes ≡ Some (h, rest) → (slice_index bytes 0 ≡ h.0) × (rest ≡ drop 6 bytes)
-unfolding head_at
+-- the version is the first byte, the kind the second, and the body stands after six
+head_is : (bytes : List ℕ) (h : ℕ × (ℕ × ℕ)) (rest : List ℕ) → a_head.read bytes ≡ Some (h, rest) → (slice_index bytes 0 ≡ h.0) × (slice_index bytes 1 ≡ h.1.0) × (rest ≡ drop 6 bytes)
+unfolding a_head
 head_is [] h rest e = absurd (cc e)
 head_is (v ∷ []) h rest e = absurd (cc e)
 head_is (v ∷ k ∷ bytes) h rest e =
@@ -60,10 +59,13 @@ head_is (v ∷ k ∷ bytes) h rest e =
     bind_then (number_at w32 bytes) (λ z. Some ((k, z.0), z.1)) y at_y (λ z at_z is'.
     let pair-is : ((k, z.0), z.1) ≡ y = cc is' in
     let head-is : ((v, y.0), y.1) ≡ (h, rest) = cc is in
-    (ap (λ (p : (ℕ × (ℕ × ℕ)) × List ℕ). p.0.0) head-is, sym (ap (λ (p : (ℕ × ℕ) × List ℕ). p.1) pair-is ∙ ap (λ (p : (ℕ × (ℕ × ℕ)) × List ℕ). p.1) head-is) ∙ number_rest w32 bytes z.0 z.1 at_z)))
+    let rest-is : z.1 ≡ rest = ap (λ (p : (ℕ × ℕ) × List ℕ). p.1) pair-is ∙ ap (λ (p : (ℕ × (ℕ × ℕ)) × List ℕ). p.1) head-is in (
+      ap (λ (p : (ℕ × (ℕ × ℕ)) × List ℕ). p.0.0) head-is,
+      ap (λ (p : (ℕ × ℕ) × List ℕ). p.0.0) pair-is ∙ ap (λ (p : (ℕ × (ℕ × ℕ)) × List ℕ). p.0.1.0) head-is,
+      sym rest-is ∙ number_rest w32 bytes z.0 z.1 at_z,
+    )))
 
-pub carries_items : (bytes : List ℕ) (h : ℕ × (ℕ × ℕ)) (rest : List ℕ) → head_at bytes ≡ Some (h, rest) → is_version resources h.0 ≡ true → ListsItems h.1.0 rest → CarriesItems bytes
+pub carries_items : (bytes : List ℕ) (h : ℕ × (ℕ × ℕ)) (rest : List ℕ) → a_head.read bytes ≡ Some (h, rest) → is_version resources h.0 ≡ true → ListsItems h.1.0 rest → CarriesItems bytes
 carries_items bytes h rest e is lists =
-    let head = head_is bytes h rest e in
-    let version = subst (λ v. (v ≡ 1) ⊎ (v ≡ 2)) (sym head.0) (one_or_two resources h.0 is) in
-    (version, subst (λ (kind : ℕ). ListsItems kind (drop 6 bytes)) (sym (second_is_kind bytes h rest e)) (subst (λ (body : List ℕ). ListsItems h.1.0 body) head.1 lists))
+    let (version, kind, body) = head_is bytes h rest e in
+    (rw version (one_or_two resources h.0 is), rw (kind, ← body) lists)

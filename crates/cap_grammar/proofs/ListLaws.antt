@@ -1,5 +1,5 @@
 -- Fields that are read one after the other.
-use Rattle.cap_grammar.proofs.Prelude.{◌≡◌, ℕ, zero, suc, ◌+◌, ◌-◌, ◌<◌, ◌≤◌, List, [], ◌∷◌, ◌++◌, length, take, drop, Option, Some, None, refl, sym, ap, ◌∙◌, append_assoc, arith, nat_le, Width, append-nil, ◌>>=◌, byte_at, number_at, passing_at, times_at, counted_at}
+use Rattle.cap_grammar.proofs.Prelude.{List, None, Option, Some, [], ap, append_assoc, arith, drop, length, refl, suc, sym, take, zero, ℕ, ◌++◌, ◌+◌, ◌-◌, ◌<◌, ◌∙◌, ◌∷◌, ◌≡◌, ◌≤◌, append-nil, nat_le, number, byte_at, passing_at, times_at, ◌>>=◌, counted_at}
 
 -- what n more fields give after those that were read
 abbrev pub more_at : {A : Type 0} → List A → ℕ → (List ℕ → Option (A × List ℕ)) → List ℕ → Option (List A × List ℕ)
@@ -33,15 +33,15 @@ module _ {A : Type 0} (field : List ℕ → Option (A × List ℕ)) where
       bind_id (Some x) = refl
 
   -- the length was read, and then come the fields
-  pub counted_start : (w : Width) (most : ℕ) (bytes : List ℕ) (n : ℕ) (rest : List ℕ) (none : List A) → passing_at (λ n. nat_le n most) (number_at w) bytes ≡ Some (n, rest) → none ≡ [] → counted_at w most field bytes ≡ more_at none (n - 0) field rest
+  pub counted_start : (number : List ℕ → Option (ℕ × List ℕ)) (most : ℕ) (bytes : List ℕ) (n : ℕ) (rest : List ℕ) (none : List A) → passing_at (λ n. nat_le n most) number bytes ≡ Some (n, rest) → none ≡ [] → counted_at number most field bytes ≡ more_at none (n - 0) field rest
   unfolding counted_at
-  counted_start w most bytes n rest none e nothing =
+  counted_start number most bytes n rest none e nothing =
       let all : n ≡ n - 0 = omega arith in
       ap (λ (o : Option (ℕ × List ℕ)). o >>= λ x. times_at x.0 field x.1) e ∙ whole n rest ∙ (λ j. more_at (sym nothing j) (all j) field rest)
 
-  pub counted_fails : (w : Width) (most : ℕ) (bytes : List ℕ) → passing_at (λ n. nat_le n most) (number_at w) bytes ≡ None → counted_at w most field bytes ≡ None
+  pub counted_fails : (number : List ℕ → Option (ℕ × List ℕ)) (most : ℕ) (bytes : List ℕ) → passing_at (λ n. nat_le n most) number bytes ≡ None → counted_at number most field bytes ≡ None
   unfolding counted_at
-  counted_fails w most bytes e = ap (λ (o : Option (ℕ × List ℕ)). o >>= λ x. times_at x.0 field x.1) e
+  counted_fails number most bytes e = ap (λ (o : Option (ℕ × List ℕ)). o >>= λ x. times_at x.0 field x.1) e
 
   -- one more was read, or was not there
   step : (done : List A) (left : ℕ) (bytes : List ℕ) (x : A) (rest : List ℕ) → 1 ≤ left → field bytes ≡ Some (x, rest) → more_at done left field bytes ≡ more_at (done ++ x ∷ []) (left - 1) field rest
@@ -83,13 +83,13 @@ bytes_missing (suc n) [] short = refl
 bytes_missing (suc n) (b ∷ bytes) short = ap (λ (o : Option (List ℕ × List ℕ)). o >>= λ x. Some (b ∷ x.0, x.1)) (bytes_missing n bytes (omega (arith, short)))
 
 -- bytes after their length
-abbrev SizeAt : Width → ℕ → List ℕ → ℕ → List ℕ → Type 0
-SizeAt w most bytes n rest = passing_at (λ n. nat_le n most) (number_at w) bytes ≡ Some (n, rest)
+abbrev SizeAt : (List ℕ → Option (ℕ × List ℕ)) → ℕ → List ℕ → ℕ → List ℕ → Type 0
+SizeAt number most bytes n rest = passing_at (λ n. nat_le n most) number bytes ≡ Some (n, rest)
 
-pub counted_bytes : (w : Width) (most : ℕ) (bytes : List ℕ) (n : ℕ) (rest : List ℕ) → SizeAt w most bytes n rest → n ≤ length rest → counted_at w most byte_at bytes ≡ Some (take n rest, drop n rest)
+pub counted_bytes : (number : List ℕ → Option (ℕ × List ℕ)) (most : ℕ) (bytes : List ℕ) (n : ℕ) (rest : List ℕ) → SizeAt number most bytes n rest → n ≤ length rest → counted_at number most byte_at bytes ≡ Some (take n rest, drop n rest)
 unfolding counted_at
-counted_bytes w most bytes n rest size long = ap (λ (o : Option (ℕ × List ℕ)). o >>= λ x. times_at x.0 byte_at x.1) size ∙ bytes_at_once n rest long
+counted_bytes number most bytes n rest size long = ap (λ (o : Option (ℕ × List ℕ)). o >>= λ x. times_at x.0 byte_at x.1) size ∙ bytes_at_once n rest long
 
-pub counted_missing : (w : Width) (most : ℕ) (bytes : List ℕ) (n : ℕ) (rest : List ℕ) → SizeAt w most bytes n rest → length rest < n → counted_at w most byte_at bytes ≡ None
+pub counted_missing : (number : List ℕ → Option (ℕ × List ℕ)) (most : ℕ) (bytes : List ℕ) (n : ℕ) (rest : List ℕ) → SizeAt number most bytes n rest → length rest < n → counted_at number most byte_at bytes ≡ None
 unfolding counted_at
-counted_missing w most bytes n rest size short = ap (λ (o : Option (ℕ × List ℕ)). o >>= λ x. times_at x.0 byte_at x.1) size ∙ bytes_missing n rest short
+counted_missing number most bytes n rest size short = ap (λ (o : Option (ℕ × List ℕ)). o >>= λ x. times_at x.0 byte_at x.1) size ∙ bytes_missing n rest short

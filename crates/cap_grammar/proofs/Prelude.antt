@@ -3,7 +3,7 @@ pub use Rattle.std.proofs.Common.{Bool, Err, List, None, Option, Some, [], ap, a
 pub use Rattle.std.proofs.Math.Seq.{drop-drop}
 pub use Rattle.std.proofs.lemmas.Bool.{and_parts, cases_lt, eqb-true, le-ltb, leb-true, lt-ltb, ltb-false, or_cases}
 pub use Rattle.std.proofs.lemmas.Bool.Decides.{nat_tests}
-pub use Rattle.std.proofs.lemmas.List.{append-nil, drop_all, drop_at, get_or-drop, get_or-take, get_or_past, length-replicate, length-take, nil_from_length, replicate-append-replicate, take-append-drop, take-replicate, take_all, take_at}
+pub use Rattle.std.proofs.lemmas.List.{append-nil, drop_all, drop_at, get_or-append-add, get_or-take, get_or_past, length-replicate, length-take, nil_from_length, replicate-append-replicate, take-append-drop, take-replicate, take_all, take_at}
 pub use Rattle.std.proofs.lemmas.List.Elements.{All-append, All-cons, All-from_recursion, All-nil}
 pub use Rattle.std.proofs.lemmas.Nat.{be_bytes_2, be_bytes_4, be_bytes_8, from_be_bytes-to_be_bytes_2, from_be_bytes-to_be_bytes_4, from_be_bytes-to_be_bytes_8}
 pub use Rattle.std.proofs.lemmas.Result.{err_from_is_err_and}
@@ -15,13 +15,14 @@ pub use Rattle.cap_base.specs.Limits.{asks_max, news_max, numbers_max, resources
 pub use Rattle.cap_base.specs.Texts.{is_graphic, is_text}
 pub use Rattle.cap_frames.specs.Stream.{IsBytes}
 pub use Rattle.cap_grammar.specs.Answers.{Says}
-pub use Rattle.cap_grammar.specs.Bodies.{HasItemsAt, ListsItems, ask_of, lines_at, path_text_at, queue_state_at, registration_at, report_at, submission_at, wish_at, wishes_at}
-unfoldable pub use Rattle.cap_grammar.specs.Bodies.{allocate_at, ask_at, body_at, cluster_info_at, finish_master_at, heartbeat_at, node_gone_at, queue_info_at, refresh_at, register_master_at, register_node_at, set_queue_state_at, submit_at}
-pub use Rattle.cap_grammar.specs.Fields.{all_at, byte_at, flag_at, flag_of_byte, number_at, pair_at, passing_at, text_at, times_at, ◌>>=◌}
+pub use Rattle.cap_grammar.specs.Bodies.{HasItemsAt, ListsItems, Wish, ask_of, lines, numbers, wish, wish_of}
+unfoldable pub use Rattle.cap_grammar.specs.Bodies.{an_ask, body_at, node_report, queue_state, registration, submission, wishes}
+pub use Rattle.cap_grammar.specs.Descriptions.{Field, bool, counted, made, nothing, number, pair, text_that, u16, u32, u64, u8, vector}
+pub use Rattle.cap_grammar.specs.Fields.{all_at, byte_at, flag_at, flag_of_byte, made_at, number_at, pair_at, passing_at, text_at, times_at, ◌>>=◌}
 unfoldable pub use Rattle.cap_grammar.specs.Fields.{amount_at, amounts_at, counted_at}
 pub use Rattle.cap_grammar.specs.Laws.{node_with_two_amounts}
 pub use Rattle.cap_grammar.specs.Reading.{CarriesItems, GivesInMemory}
-unfoldable pub use Rattle.cap_grammar.specs.Reading.{head_at, request_at}
+unfoldable pub use Rattle.cap_grammar.specs.Reading.{a_head, request_at}
 pub use Rattle.cap_grammar.specs.Shown.{IsShownVector, shown, shown_amounts, shown_grant, shown_news}
 pub use Rattle.cap_grammar.specs.Spelling.{FitsAllocated, FitsAsk, FitsBeat, FitsByte, FitsEnd, FitsGrant, FitsListed, FitsNumber, FitsRefusal, FitsReply, FitsRequest, IsKind, IsNoRequest, IsOfKind, IsReply, IsRequest, byte, counted_list, fault_reply, flag, kind_of, limit, refusal_body, refusal_bytes, reply_body, reply_bytes, request_body, request_bytes, text}
 unfoldable pub use Rattle.cap_grammar.specs.Spelling.{allocate_bytes, ask, beat, cluster_report, end, grant, list_bytes, queue_report, resource}

@@ -1,13 +1,13 @@
 -- A reply is read again from its spelling, so no two share one.
-use Rattle.cap_grammar.proofs.Prelude.{◌≡◌, ℕ, ◌<◌, List, ◌∷◌, ◌++◌, Option, Some, refl, sym, ap, subst, ◌∙◌, true, arith, w32, to_be_bytes, resources, Reply, IsBytes, shown, reply_body, reply_bytes, IsOfKind, FitsReply, IsReply, fault_reply, Says, Head, amounts_in, is_version, ◌>>=◌, head_at}
+use Rattle.cap_grammar.proofs.Prelude.{List, Option, Some, ap, arith, refl, subst, sym, true, ℕ, ◌++◌, ◌<◌, ◌∙◌, ◌∷◌, ◌≡◌, to_be_bytes, w32, resources, IsBytes, Says, ◌>>=◌, a_head, shown, FitsReply, IsOfKind, IsReply, fault_reply, reply_body, reply_bytes, amounts_in, is_version, Head, Reply}
 use Rattle.cap_grammar.specs.declared.answers.Answer as declared
 use Rattle.cap_grammar.specs.declared.answers.Answer.TheVariants as answers
 use Rattle.cap_grammar.proofs.FieldLaws.{some_is}
-use Rattle.cap_grammar.proofs.RequestFields.{FitsHead, is_head}
+use Rattle.cap_grammar.proofs.RequestFields.{head_again}
 use Rattle.cap_grammar.proofs.ShownLaws.{body_shown, shown_of_kind, of_kind_shown, all_of_reply}
 use Rattle.cap_grammar.proofs.VersionLaws.{spelled_among, version_small}
 use Rattle.cap_grammar.proofs.SpelledBytes.{one, both, word}
-use Rattle.cap_grammar.proofs.KindLaws.{reply_body_at, reply_body_again, reply_body_bytes}
+use Rattle.cap_grammar.proofs.KindLaws.{reply_body_at, reply_body_again}
 
 abbrev Answer : ℕ → Type 0
 Answer K = Head × (ℕ × Reply K)
@@ -15,16 +15,15 @@ Answer K = Head × (ℕ × Reply K)
 -- head, kind and reply
 abbrev reply_at : (K : ℕ) → List ℕ → Option (Answer K)
 reply_at K bytes = do
-  h ← head_at bytes
+  h ← a_head.read bytes
   reply ← reply_body_at K h.0.0 h.0.1.0 h.1
-  Some (record { version = h.0.0; call_id = h.0.1.1 }, (h.0.1.0, reply))
+  Some (record { version = h.0.0; call_id = h.0.1.1 }, (h.0.1.0, reply.0))
 
 reply_again : {K : ℕ} (bytes : List ℕ) (head : Head) (kind : ℕ) (reply : Reply K) → IsReply bytes head kind reply → reply_at K bytes ≡ Some (head, (kind, shown (amounts_in head.version) reply))
 reply_again {K} bytes head kind reply is =
-    let h : ℕ × (ℕ × ℕ) = (head.version, (kind, head.call_id)) in
-    let ok : FitsHead h = (version_small K head.version is.version_fits, (omega (arith, is.is_kind.1), is.id_fits)) in
     let le = spelled_among K head.version is.version_fits in
-    ap (reply_at K) is.spelled ∙ rw (is_head.again h (reply_body head.version reply) ok, reply_body_again K head.version le kind reply is.of_kind is.fits) refl
+    let front = head_again head.version kind head.call_id (reply_body head.version reply) (version_small K head.version is.version_fits) (omega (arith, is.is_kind.1)) is.id_fits in
+    ap (reply_at K) is.spelled ∙ rw (front, (reply_body_again K head.version le kind reply is.of_kind is.fits).0) refl
 
 pub one_reply : (K : ℕ) (bytes : List ℕ) (head head' : Head) (kind kind' : ℕ) (reply reply' : Reply K) → IsReply bytes head kind reply → IsReply bytes head' kind' reply' →
     (head ≡ head') × (kind ≡ kind') × (shown (amounts_in head.version) reply ≡ shown (amounts_in head.version) reply')
@@ -72,7 +71,8 @@ one_answer bytes (answers.Reply head kind reply) (answers.Fault status) says say
 one_answer bytes (answers.Fault status) (answers.Reply head kind reply) says says' = absurd (no_fault resources status head kind reply (subst (λ (b : List ℕ). IsReply b head kind reply) says.1 says'.0))
 one_answer bytes (answers.Fault status) (answers.Fault status') says says' = let a = says.1 in let b = says'.1 in cc (a, b)
 
-pub reply_is_bytes : (K : ℕ) (head : Head) (kind : ℕ) (r : Reply K) → is_version K head.version ≡ true → kind < 256 → FitsReply r → IsBytes (reply_bytes head kind r)
-reply_is_bytes K head kind r is lt fits =
+pub reply_is_bytes : (K : ℕ) (head : Head) (kind : ℕ) (r : Reply K) → is_version K head.version ≡ true → kind < 256 → IsOfKind kind r → FitsReply r → IsBytes (reply_bytes head kind r)
+reply_is_bytes K head kind r is lt of_kind fits =
+    let body = (reply_body_again K head.version (spelled_among K head.version is) kind r of_kind fits).1 in
     one head.version (kind ∷ to_be_bytes w32 head.call_id ++ reply_body head.version r) (version_small K head.version is)
-    (one kind (to_be_bytes w32 head.call_id ++ reply_body head.version r) lt (both (to_be_bytes w32 head.call_id) (reply_body head.version r) (word head.call_id) (reply_body_bytes head.version r fits)))
+    (one kind (to_be_bytes w32 head.call_id ++ reply_body head.version r) lt (both (to_be_bytes w32 head.call_id) (reply_body head.version r) (word head.call_id) body))

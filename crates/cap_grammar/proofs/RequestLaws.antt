@@ -1,40 +1,40 @@
 -- What is read is spelled so, and what is spelled so is read, and no request begins another.
-use Rattle.cap_grammar.proofs.Prelude.{◌≡◌, ℕ, zero, suc, List, [], ◌∷◌, ◌++◌, Some, true, refl, sym, ap, subst, ◌∙◌, arith, Option, Result, Ok, Err, IfOk, IsErrOf, slice_index, w32, to_be_bytes, append-nil, resources, IsWithin, amount_max, Request, IsBytes, MessageFault, resource, kind_of, request_body, FitsRequest, request_bytes, IsRequest, IsNoRequest, Head, is_version, node_with_two_amounts, ◌>>=◌, number_at, byte_at, pair_at, amounts_at, amount_at, body_at, register_node_at, GivesInMemory, head_at, request_at}
+use Rattle.cap_grammar.proofs.Prelude.{Err, List, Option, Some, [], ap, arith, refl, subst, suc, sym, true, zero, ℕ, ◌++◌, ◌∙◌, ◌∷◌, ◌≡◌, append-nil, to_be_bytes, w32, IfOk, IsErrOf, Ok, Result, slice_index, resources, IsBytes, body_at, registration, ◌>>=◌, amount_at, amounts_at, node_with_two_amounts, GivesInMemory, a_head, request_at, FitsRequest, IsNoRequest, IsRequest, kind_of, request_body, request_bytes, resource, is_version, MessageFault, NoMemory, Head, Request, IsWithin, amount_max}
 use Rattle.cap_grammar.specs.declared.fault.MessageFault.TheVariants as faults
-use Rattle.cap_grammar.proofs.FieldLaws.{AreBytes, bind_then, guard_then, some_is}
-use Rattle.cap_grammar.proofs.RequestFields.{head_bytes, FitsHead, is_head}
+use Rattle.cap_grammar.proofs.FieldLaws.{AreBytes, AreBytes-past, bind_then, guard_then, some_is, all_read, all_again}
+use Rattle.cap_grammar.proofs.RequestFields.{head_takes, head_again}
 use Rattle.cap_grammar.proofs.VersionLaws.{spelled_among, version_small}
 use Rattle.cap_grammar.proofs.SpelledBytes.{one, both, word}
-use Rattle.cap_grammar.proofs.KindLaws.{body_takes, body_again, part_at, part_again, kind_fits, body_bytes}
-
-whole : {K : ℕ} (bytes rest : List ℕ) (head : Head) (kind : ℕ) (r : Request K) → bytes ≡ head_bytes (head.version, (kind, head.call_id)) ++ rest → kind_of r ≡ kind → rest ≡ request_body head.version r → bytes ≡ request_bytes head r
-whole bytes rest head kind r e k b = e ∙ rw (← k, b) refl
+use Rattle.cap_grammar.proofs.KindLaws.{body_takes, body_again, kind_fits}
 
 request_takes : (K : ℕ) (bytes : List ℕ) (head : Head) (r : Request K) → AreBytes bytes → request_at K bytes ≡ Some (head, r) → IsRequest bytes head r
 unfolding request_at
 request_takes K bytes head r fits e =
     bind_then _ _ _ e (λ h at_head e'.
-    let t = is_head.takes bytes h.0 h.1 fits at_head in
+    let t = head_takes bytes h.0.0 h.0.1.0 h.0.1.1 h.1 fits at_head in
     let g = guard_then _ _ _ e' in
     bind_then _ _ _ g.1 (λ q at_body e''.
-    let b = body_takes K h.0.0 (spelled_among K h.0.0 g.0) h.0.1.0 h.1 q t.0.rest_fits at_body in
+    let body = AreBytes-past (h.0.0 ∷ h.0.1.0 ∷ to_be_bytes w32 h.0.1.1) bytes h.1 t.0 fits in
+    let b = body_takes K h.0.0 (spelled_among K h.0.0 g.0) h.0.1.0 h.1 q [] body (all_read (body_at K h.0.0 h.0.1.0) h.1 q at_body) in
     let found : Head = record { version = h.0.0; call_id = h.0.1.1 } in
     let made : Head × Request K = (found, q) in
     let same : made ≡ (head, r) = cc (e'') in
+    let kind = b.kind_is in
+    let spelled = b.spelled in
     subst (λ (p : Head × Request K). IsRequest bytes p.0 p.1) same (record {
-      spelled = whole bytes h.1 found h.0.1.0 q t.0.parts b.kind_is b.spelled;
+      spelled = t.0 ∙ rw (kind, spelled, append-nil (request_body h.0.0 q)) refl;
       version_fits = g.0;
-      id_fits = t.1.1.1;
+      id_fits = t.1;
       fits = b.fits;
     })))
 
 request_again : (K : ℕ) (bytes : List ℕ) (head : Head) (r : Request K) → IsRequest bytes head r → request_at K bytes ≡ Some (head, r)
 unfolding request_at
 request_again K bytes head r is =
-    let h : ℕ × (ℕ × ℕ) = (head.version, (kind_of r, head.call_id)) in
-    let ok : FitsHead h = (version_small K head.version is.version_fits, (kind_fits r, is.id_fits)) in
     let le = spelled_among K head.version is.version_fits in
-    ap (request_at K) is.spelled ∙ rw (is_head.again h (request_body head.version r) ok, is.version_fits, body_again K head.version le r is.fits) refl
+    let front = head_again head.version (kind_of r) head.call_id (request_body head.version r) (version_small K head.version is.version_fits) (kind_fits r) is.id_fits in
+    let body = all_again (body_at K head.version (kind_of r)) (request_body head.version r) r (body_again K head.version le r is.fits).0 in
+    ap (request_at K) is.spelled ∙ rw (front, is.version_fits, body) refl
 
 -- no two requests share a spelling
 pub one_request : (K : ℕ) (bytes : List ℕ) (head head' : Head) (request request' : Request K) → IsRequest bytes head request → IsRequest bytes head' request' → (head ≡ head') × (request ≡ request')
@@ -72,19 +72,18 @@ one_in_version_one = record {
     within (suc (suc (suc k))) = omega arith
 
 pub none_in_version_two : IsNoRequest 3 (node_with_two_amounts 2)
-unfolding request_at head_at body_at register_node_at amounts_at amount_at
+unfolding request_at a_head body_at registration amounts_at amount_at
 none_in_version_two head request is = let read = request_again 3 (node_with_two_amounts 2) head request is in absurd (cc read)
 
 -- the request at the front, and the bytes after it
 abbrev front_at : (K : ℕ) → List ℕ → Option ((Head × Request K) × List ℕ)
-front_at K bytes = head_at bytes >>= λ h. part_at K h.0.0 h.0.1.0 h.1 >>= λ r. Some ((record { version = h.0.0; call_id = h.0.1.1 }, r.0), r.1)
+front_at K bytes = a_head.read bytes >>= λ h. body_at K h.0.0 h.0.1.0 h.1 >>= λ r. Some ((record { version = h.0.0; call_id = h.0.1.1 }, r.0), r.1)
 
 front_again : {K : ℕ} (bytes rest : List ℕ) (head : Head) (r : Request K) → IsRequest bytes head r → front_at K (bytes ++ rest) ≡ Some ((head, r), rest)
 front_again {K} bytes rest head r is =
-    let h : ℕ × (ℕ × ℕ) = (head.version, (kind_of r, head.call_id)) in
-    let ok : FitsHead h = (version_small K head.version is.version_fits, (kind_fits r, is.id_fits)) in
     let le = spelled_among K head.version is.version_fits in
-    ap (λ (b : List ℕ). front_at K (b ++ rest)) is.spelled ∙ rw (is_head.again h (request_body head.version r ++ rest) ok, part_again K head.version le r rest is.fits) refl
+    let front = head_again head.version (kind_of r) head.call_id (request_body head.version r ++ rest) (version_small K head.version is.version_fits) (kind_fits r) is.id_fits in
+    ap (λ (b : List ℕ). front_at K (b ++ rest)) is.spelled ∙ rw (front, (body_again K head.version le r is.fits).0 rest) refl
 
 pub none_begins_another : (K : ℕ) (bytes rest : List ℕ) (head head' : Head) (request request' : Request K) → IsRequest bytes head request → IsRequest (bytes ++ rest) head' request' → rest ≡ []
 none_begins_another K bytes rest head head' request request' is is' =
@@ -96,7 +95,7 @@ none_begins_another K bytes rest head head' request request' is is' =
 pub request_is_bytes : (K : ℕ) (head : Head) (r : Request K) → is_version K head.version ≡ true → FitsRequest head.version r → IsBytes (request_bytes head r)
 request_is_bytes K head r is fits =
     one head.version (kind_of r ∷ to_be_bytes w32 head.call_id ++ request_body head.version r) (version_small K head.version is)
-    (one (kind_of r) (to_be_bytes w32 head.call_id ++ request_body head.version r) (kind_fits r) (both (to_be_bytes w32 head.call_id) (request_body head.version r) (word head.call_id) (body_bytes head.version r fits)))
+    (one (kind_of r) (to_be_bytes w32 head.call_id ++ request_body head.version r) (kind_fits r) (both (to_be_bytes w32 head.call_id) (request_body head.version r) (word head.call_id) (body_again K head.version (spelled_among K head.version is) r fits).1))
 
 -- ---- what a function that reads so returns
 
@@ -118,15 +117,3 @@ pub bad : (bytes : List ℕ) (result : Read) → GivesInMemory (λ x. (x.0, x.1)
 bad bytes (Ok x) h is_bad head request is = absurd (cc (is_bad))
 bad bytes (Err faults.Bad) h is_bad head request is = let e = request_again resources bytes head request is in absurd (cc (h, e))
 bad bytes (Err faults.NoMemory) h is_bad head request is = absurd (cc (is_bad))
-
--- the kind is the second byte
-pub second_is_kind : (bytes : List ℕ) (h : ℕ × (ℕ × ℕ)) (rest : List ℕ) → head_at bytes ≡ Some (h, rest) → slice_index bytes 1 ≡ h.1.0
-unfolding head_at
-second_is_kind [] h rest e = absurd (cc (e))
-second_is_kind (v ∷ []) h rest e = absurd (cc (e))
-second_is_kind (v ∷ k ∷ bytes) h rest e =
-    bind_then (pair_at byte_at (number_at w32) (k ∷ bytes)) (λ y. Some ((v, y.0), y.1)) (h, rest) e (λ y at_y is.
-    bind_then (number_at w32 bytes) (λ z. Some ((k, z.0), z.1)) y at_y (λ z at_z is'.
-    let pair-is : ((k, z.0), z.1) ≡ y = cc (is') in
-    let head-is : ((v, y.0), y.1) ≡ (h, rest) = cc (is) in
-    ap (λ (p : (ℕ × ℕ) × List ℕ). p.0.0) pair-is ∙ ap (λ (p : (ℕ × (ℕ × ℕ)) × List ℕ). p.0.1.0) head-is))

@@ -1,121 +1,75 @@
--- Reading the body of each kind of request, and which bodies have lists.
-use Rattle.std.specs.Prelude.{◌≡◌, ◌⊎◌, ℕ, List, length, drop, Option, Some, None, Bool, true, nat_lt, ◌==◌, if◌then◌else◌}
-use Rattle.std.specs.Int.{Width, w16, w32, w64}
+-- What the body of each kind of request is put together from, and which bodies have lists.
+use Rattle.std.specs.Prelude.{◌≡◌, ◌⊎◌, ℕ, List, drop, Option, None, Bool, true, nat_lt, ◌==◌, if◌then◌else◌}
+use Rattle.std.specs.Int.{Width, w16, w32}
 use Rattle.cap_vector.specs.Vector.{amount_max}
 use Rattle.cap_base.specs.Limits.{asks_max, numbers_max, text_max}
-use Rattle.cap_model.specs.Asks.{Ask}
 use Rattle.cap_base.specs.Cascade.{holds_of}
+use Rattle.cap_model.specs.Asks.{Ask}
 use Rattle.cap_model.specs.declared.request.Request.{Request}
-use Rattle.cap_grammar.specs.Fields.{◌>>=◌, pair_at, passing_at, all_at, counted_at, byte_at, number_at, text_at, flag_at, amounts_at}
+use Rattle.cap_grammar.specs.Descriptions.{Field, nothing, u8, u16, u32, u64, bool, text_that, vector, pair, counted, made}
+use Rattle.cap_grammar.specs.Fields.{made_at, number_at}
+use Rattle.cap_grammar.specs.Spelling.{FitsAsk}
 use Rattle.cap_grammar.specs.Texts.{is_host, is_rack, is_path, is_user, is_place}
 use Rattle.cap_grammar.specs.Versions.{amounts_in}
 
 -- path of the leaf queue, and user
-abbrev pub submission_at : List ℕ → Option ((List ℕ × List ℕ) × List ℕ)
-submission_at bytes = pair_at (passing_at is_path text_at) (passing_at is_user text_at) bytes
-
-unfoldable pub submit_at : (K : ℕ) → List ℕ → Option (Request K)
-submit_at K bytes = do
-  x ← all_at submission_at bytes
-  Some (Request.Submit x.0 x.1)
-
-unfoldable pub register_master_at : (K : ℕ) → List ℕ → Option (Request K)
-register_master_at K bytes = do
-  app ← all_at (number_at w64) bytes
-  Some (Request.RegisterMaster app)
+unfoldable pub submission : Field (List ℕ × List ℕ)
+submission = pair (text_that is_path) (text_that is_user)
 
 -- priority, request id, count, resource and place
-abbrev pub wish_at : (K n : ℕ) → List ℕ → Option ((ℕ × (ℕ × (ℕ × (List ℕ × List ℕ)))) × List ℕ)
-wish_at K n bytes = pair_at (number_at w32) (pair_at (number_at w64) (pair_at (number_at w32) (pair_at (amounts_at K n amount_max) (passing_at is_place text_at)))) bytes
+abbrev pub Wish : Type 0
+Wish = ℕ × (ℕ × (ℕ × (List ℕ × List ℕ)))
 
-abbrev pub ask_of : ℕ × (ℕ × (ℕ × (List ℕ × List ℕ))) → Ask
+abbrev pub wish : (K n : ℕ) → Field Wish
+wish K n = pair u32 (pair u64 (pair u32 (pair (vector K n amount_max) (text_that is_place))))
+
+abbrev pub ask_of : Wish → Ask
 ask_of x = record { key = record { priority = x.0; request = x.1.0 }; count = x.1.1.0; resource = x.1.1.1.0; place = x.1.1.1.1 }
 
-unfoldable pub ask_at : (K n : ℕ) → List ℕ → Option (Ask × List ℕ)
-ask_at K n bytes = do
-  x ← wish_at K n bytes
-  Some (ask_of x.0, x.1)
+abbrev pub wish_of : Ask → Wish
+wish_of a = (a.key.priority, (a.key.request, (a.count, (a.resource, a.place))))
+
+unfoldable pub an_ask : (K n : ℕ) → Field Ask
+an_ask K n = made ask_of wish_of (FitsAsk K n) (wish K n)
+
+-- containers
+abbrev pub numbers : Field (List ℕ)
+numbers = counted u16 numbers_max u64
 
 -- application, response id, asks and releases
-abbrev pub wishes_at : (K n : ℕ) → List ℕ → Option ((ℕ × (ℕ × (List Ask × List ℕ))) × List ℕ)
-wishes_at K n bytes = pair_at (number_at w64) (pair_at (number_at w32) (pair_at (counted_at w16 asks_max (ask_at K n)) (counted_at w16 numbers_max (number_at w64)))) bytes
-
-unfoldable pub allocate_at : (K n : ℕ) → List ℕ → Option (Request K)
-allocate_at K n bytes = do
-  x ← all_at (wishes_at K n) bytes
-  Some (Request.Allocate x.0 x.1.0 x.1.1.0 x.1.1.1)
-
-unfoldable pub finish_master_at : (K : ℕ) → List ℕ → Option (Request K)
-finish_master_at K bytes = do
-  app ← all_at (number_at w64) bytes
-  Some (Request.FinishMaster app)
+unfoldable pub wishes : (K n : ℕ) → Field (ℕ × (ℕ × (List Ask × List ℕ)))
+wishes K n = pair u64 (pair u32 (pair (counted u16 asks_max (an_ask K n)) numbers))
 
 -- host, rack and total
-abbrev pub registration_at : (K n : ℕ) → List ℕ → Option ((List ℕ × (List ℕ × List ℕ)) × List ℕ)
-registration_at K n bytes = pair_at (passing_at is_host text_at) (pair_at (passing_at is_rack text_at) (amounts_at K n amount_max)) bytes
-
-unfoldable pub register_node_at : (K n : ℕ) → List ℕ → Option (Request K)
-register_node_at K n bytes = do
-  x ← all_at (registration_at K n) bytes
-  Some (Request.RegisterNode x.0 x.1.0 x.1.1)
+unfoldable pub registration : (K n : ℕ) → Field (List ℕ × (List ℕ × List ℕ))
+registration K n = pair (text_that is_host) (pair (text_that is_rack) (vector K n amount_max))
 
 -- node, response id and ended containers
-abbrev pub report_at : List ℕ → Option ((ℕ × (ℕ × List ℕ)) × List ℕ)
-report_at bytes = pair_at (number_at w64) (pair_at (number_at w32) (counted_at w16 numbers_max (number_at w64))) bytes
-
-unfoldable pub heartbeat_at : (K : ℕ) → List ℕ → Option (Request K)
-heartbeat_at K bytes = do
-  x ← all_at report_at bytes
-  Some (Request.Heartbeat x.0 x.1.0 x.1.1)
-
-unfoldable pub node_gone_at : (K : ℕ) → List ℕ → Option (Request K)
-node_gone_at K bytes = do
-  node ← all_at (number_at w64) bytes
-  Some (Request.NodeGone node)
-
-abbrev pub path_text_at : List ℕ → Option (List ℕ × List ℕ)
-path_text_at bytes = passing_at is_path text_at bytes
-
-unfoldable pub queue_info_at : (K : ℕ) → List ℕ → Option (Request K)
-queue_info_at K bytes = do
-  path ← all_at path_text_at bytes
-  Some (Request.QueueInfo path)
+unfoldable pub node_report : Field (ℕ × (ℕ × List ℕ))
+node_report = pair u64 (pair u32 numbers)
 
 -- path, and whether the queue shall run
-abbrev pub queue_state_at : List ℕ → Option ((List ℕ × Bool) × List ℕ)
-queue_state_at bytes = pair_at path_text_at flag_at bytes
+unfoldable pub queue_state : Field (List ℕ × Bool)
+queue_state = pair (text_that is_path) bool
 
-unfoldable pub set_queue_state_at : (K : ℕ) → List ℕ → Option (Request K)
-set_queue_state_at K bytes = do
-  x ← all_at queue_state_at bytes
-  Some (Request.SetQueueState x.0 x.1)
+-- property lines
+abbrev pub lines : Field (List ℕ)
+lines = counted u32 text_max u8
 
-unfoldable pub cluster_info_at : (K : ℕ) → List ℕ → Option (Request K)
-cluster_info_at K bytes = if length bytes == 0 then Some Request.ClusterInfo else None
-
--- property lines: how many bytes, and the bytes
-abbrev pub lines_at : List ℕ → Option (List ℕ × List ℕ)
-lines_at bytes = counted_at w32 text_max byte_at bytes
-
-unfoldable pub refresh_at : (K : ℕ) → List ℕ → Option (Request K)
-refresh_at K bytes = do
-  text ← all_at lines_at bytes
-  Some (Request.Refresh text)
-
--- the body of a request of this kind in this version, all of the bytes
-unfoldable pub body_at : (K version kind : ℕ) → List ℕ → Option (Request K)
+-- the body of a request of this kind in this version, at the front of bytes
+unfoldable pub body_at : (K version kind : ℕ) → List ℕ → Option (Request K × List ℕ)
 body_at K version kind bytes =
-    if kind == 1 then submit_at K bytes else
-    if kind == 2 then register_master_at K bytes else
-    if kind == 3 then allocate_at K (amounts_in version) bytes else
-    if kind == 4 then finish_master_at K bytes else
-    if kind == 5 then register_node_at K (amounts_in version) bytes else
-    if kind == 6 then heartbeat_at K bytes else
-    if kind == 7 then node_gone_at K bytes else
-    if kind == 8 then queue_info_at K bytes else
-    if kind == 9 then set_queue_state_at K bytes else
-    if kind == 10 then cluster_info_at K bytes else
-    if kind == 11 then refresh_at K bytes else
+    if kind == 1 then made_at (λ x. Request.Submit x.0 x.1) submission.read bytes else
+    if kind == 2 then made_at Request.RegisterMaster u64.read bytes else
+    if kind == 3 then made_at (λ x. Request.Allocate x.0 x.1.0 x.1.1.0 x.1.1.1) (wishes K (amounts_in version)).read bytes else
+    if kind == 4 then made_at Request.FinishMaster u64.read bytes else
+    if kind == 5 then made_at (λ x. Request.RegisterNode x.0 x.1.0 x.1.1) (registration K (amounts_in version)).read bytes else
+    if kind == 6 then made_at (λ x. Request.Heartbeat x.0 x.1.0 x.1.1) node_report.read bytes else
+    if kind == 7 then made_at Request.NodeGone u64.read bytes else
+    if kind == 8 then made_at Request.QueueInfo (text_that is_path).read bytes else
+    if kind == 9 then made_at (λ x. Request.SetQueueState x.0 x.1) queue_state.read bytes else
+    if kind == 10 then made_at (λ x. Request.ClusterInfo) nothing.read bytes else
+    if kind == 11 then made_at Request.Refresh lines.read bytes else
     None
 
 -- a list that is not empty, with its length in a number of this width, begins at a position of the bytes

@@ -42,6 +42,12 @@ times_at (suc n) field bytes = do
   xs ← times_at n field x.1
   Some (x.0 ∷ xs.0, xs.1)
 
+-- what is made of a field
+abbrev pub made_at : {A B : Type 0} → (A → B) → (List ℕ → Option (A × List ℕ)) → List ℕ → Option (B × List ℕ)
+made_at make field bytes = do
+  x ← field bytes
+  Some (make x.0, x.1)
+
 -- a field that is all of the bytes
 abbrev pub all_at : {A : Type 0} → (List ℕ → Option (A × List ℕ)) → List ℕ → Option A
 all_at field bytes = do
@@ -79,12 +85,10 @@ amount_at bound bytes = passing_at (λ n. nat_le n bound) (number_at w64) bytes
 
 -- a vector of k amounts up to the bound: the first n, and 0 in place of the others
 unfoldable pub amounts_at : ℕ → ℕ → ℕ → List ℕ → Option (List ℕ × List ℕ)
-amounts_at k n bound bytes = do
-  x ← times_at n (amount_at bound) bytes
-  Some (x.0 ++ zeros (k - n), x.1)
+amounts_at k n bound bytes = made_at (λ v. v ++ zeros (k - n)) (times_at n (amount_at bound)) bytes
 
 -- at most so many fields, with their number before them
-unfoldable pub counted_at : {A : Type 0} → Width → ℕ → (List ℕ → Option (A × List ℕ)) → List ℕ → Option (List A × List ℕ)
-counted_at w most field bytes = do
-  n ← passing_at (λ n. nat_le n most) (number_at w) bytes
+unfoldable pub counted_at : {A : Type 0} → (List ℕ → Option (ℕ × List ℕ)) → ℕ → (List ℕ → Option (A × List ℕ)) → List ℕ → Option (List A × List ℕ)
+counted_at number most field bytes = do
+  n ← passing_at (λ n. nat_le n most) number bytes
   times_at n.0 field n.1

@@ -1,10 +1,10 @@
 -- Reading a request from left to right.
 use Rattle.std.specs.Prelude.{◌≡◌, ◌⊎◌, ℕ, List, Option, Some, None, Result, Ok, Err, if◌then◌else◌, drop, slice_index}
-use Rattle.std.specs.Int.{w32}
 use Rattle.cap_model.specs.declared.request.Request.{Request}
 use Rattle.cap_grammar.specs.declared.fault.MessageFault.{MessageFault}
 use Rattle.cap_grammar.specs.declared.fault.MessageFault.TheVariants as faults
-use Rattle.cap_grammar.specs.Fields.{◌>>=◌, pair_at, byte_at, number_at}
+use Rattle.cap_grammar.specs.Descriptions.{Field, u8, u32, pair}
+use Rattle.cap_grammar.specs.Fields.{◌>>=◌, all_at}
 use Rattle.cap_grammar.specs.Bodies.{ListsItems, body_at}
 use Rattle.cap_grammar.specs.declared.head.Head.{Head}
 use Rattle.cap_grammar.specs.Versions.{is_version}
@@ -24,11 +24,11 @@ abbrev pub CarriesItems : List ℕ → Type 0
 CarriesItems bytes = ((slice_index bytes 0 ≡ 1) ⊎ (slice_index bytes 0 ≡ 2)) × ListsItems (slice_index bytes 1) (drop 6 bytes)
 
 -- version, kind and call id
-unfoldable pub head_at : List ℕ → Option ((ℕ × (ℕ × ℕ)) × List ℕ)
-head_at bytes = pair_at byte_at (pair_at byte_at (number_at w32)) bytes
+unfoldable pub a_head : Field (ℕ × (ℕ × ℕ))
+a_head = pair u8 (pair u8 u32)
 
 -- the head and the request, all of the bytes
 unfoldable pub request_at : (K : ℕ) → List ℕ → Option (Head × Request K)
 request_at K bytes = do
-  head ← head_at bytes
-  if is_version K head.0.0 then (body_at K head.0.0 head.0.1.0 head.1 >>= λ request. Some (record { version = head.0.0; call_id = head.0.1.1 }, request)) else None
+  h ← a_head.read bytes
+  if is_version K h.0.0 then (all_at (body_at K h.0.0 h.0.1.0) h.1 >>= λ request. Some (record { version = h.0.0; call_id = h.0.1.1 }, request)) else None

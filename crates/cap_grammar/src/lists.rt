@@ -2,7 +2,7 @@
 ghost use Rattle.std.specs.Prelude.{◌≡◌, ◌≤◌, nat_le, IfOk, IsErrOf};
 ghost use Rattle.std.specs.Int.{w16, w32, w64};
 ghost use Rattle.cap_grammar.specs.Fields.{Gives, counted_at, byte_at, number_at, passing_at};
-ghost use Rattle.cap_grammar.specs.Bodies.{HasItemsAt, ask_at, lines_at};
+ghost use Rattle.cap_grammar.specs.Bodies.{HasItemsAt, an_ask, lines};
 ghost use Rattle.cap_grammar.specs.Reading.{GivesInMemory};
 ghost use Rattle.cap_grammar.specs.Versions.{amounts_in};
 ghost use Rattle.cap_base.specs.Limits.{asks_max, numbers_max, resources, text_max};
@@ -40,7 +40,7 @@ fn length_of(most: u16, bytes: &[u8]) -> Result<(u16, &[u8]), MessageFault>
 // Container numbers.
 pub(crate) fn numbers_of(alloc: Global, bytes: &[u8]) -> Result<(Numbers, &[u8]), MessageFault>
     ensures gives { GivesInMemory (λ x. (x.0, x.1.now))
-        result (counted_at w16 numbers_max (number_at w64) bytes.now) }
+        result (counted_at (number_at w16) numbers_max (number_at w64) bytes.now) }
     ensures memory { IsErrOf result MessageFault.NoMemory → HasItemsAt w16 0 bytes.now }
 {
     let Ok((length, mut rest)) = length_of(NUMBERS_MAX, bytes) else {
@@ -71,7 +71,7 @@ pub(crate) fn asks_of(
     bytes: &[u8],
 ) -> Result<(Asks<RESOURCES>, &[u8]), MessageFault>
     ensures gives { GivesInMemory (λ x. (x.0, x.1.now))
-        result (counted_at w16 asks_max (ask_at resources (amounts_in version)) bytes.now) }
+        result (counted_at (number_at w16) asks_max (an_ask resources (amounts_in version)).read bytes.now) }
     ensures memory { IsErrOf result MessageFault.NoMemory → HasItemsAt w16 0 bytes.now }
 {
     let Ok((length, mut rest)) = length_of(ASKS_MAX, bytes) else {
@@ -110,7 +110,7 @@ fn size_of(bytes: &[u8]) -> Result<(u32, &[u8]), MessageFault>
 
 // Property lines.
 pub(crate) fn lines_of(alloc: Global, bytes: &[u8]) -> Result<(SettingsText, &[u8]), MessageFault>
-    ensures gives { GivesInMemory (λ x. (x.0, x.1.now)) result (lines_at bytes.now) }
+    ensures gives { GivesInMemory (λ x. (x.0, x.1.now)) result (lines.read bytes.now) }
     ensures memory { IsErrOf result MessageFault.NoMemory → HasItemsAt w32 0 bytes.now }
 {
     let Ok((size, rest)) = size_of(bytes) else {
@@ -132,10 +132,10 @@ pub(crate) fn lines_of(alloc: Global, bytes: &[u8]) -> Result<(SettingsText, &[u
 }
 
 // One ask: priority, request id, count, resource and place.
-#[tactic(auto, unfolding(crate::specs::Bodies::ask_at))]
+#[tactic(auto, unfolding(crate::specs::Bodies::an_ask))]
 fn ask_of(version: u8, bytes: &[u8]) -> Result<(Ask<RESOURCES>, &[u8]), MessageFault>
     ensures { Gives (λ x. (x.0, x.1.now)) result
-        (ask_at resources (amounts_in version) bytes.now) }
+        ((an_ask resources (amounts_in version)).read bytes.now) }
 {
     let (priority, rest) = u32_of(bytes)?;
     let (request, rest) = u64_of(rest)?;

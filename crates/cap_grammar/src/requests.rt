@@ -4,11 +4,13 @@ ghost use Rattle.std.specs.Int.{w16, w32};
 ghost use Rattle.cap_base.specs.Limits.{resources};
 ghost use Rattle.cap_model.specs.declared.request.Request.{Request};
 ghost use Rattle.cap_grammar.specs.Spelling.{IsRequest, IsNoRequest, kind_of};
-ghost use Rattle.cap_grammar.specs.Fields.{Gives};
+ghost use Rattle.cap_grammar.specs.Fields.{Gives, all_at, made_at};
+ghost use Rattle.cap_grammar.specs.Descriptions.{nothing, u64, text_that};
+ghost use Rattle.cap_grammar.specs.Texts.{is_path};
 ghost use Rattle.cap_grammar.specs.Versions.{amounts_in};
 ghost use Rattle.cap_grammar.specs.declared.head.Head.{Head};
-ghost use Rattle.cap_grammar.specs.Bodies.{submit_at, register_master_at, allocate_at, finish_master_at, register_node_at, heartbeat_at, node_gone_at, queue_info_at, set_queue_state_at, cluster_info_at, refresh_at, body_at, HasItemsAt, ListsItems};
-ghost use Rattle.cap_grammar.specs.Reading.{GivesInMemory, CarriesItems, head_at, request_at};
+ghost use Rattle.cap_grammar.specs.Bodies.{submission, wishes, registration, node_report, queue_state, lines, body_at, HasItemsAt, ListsItems};
+ghost use Rattle.cap_grammar.specs.Reading.{GivesInMemory, CarriesItems, a_head, request_at};
 
 use crate::fault::MessageFault;
 use crate::fields::{amounts_of, byte_of, flag_of, text_of, u32_of, u64_of};
@@ -66,10 +68,22 @@ pub fn kind(request: &Request<RESOURCES>) -> u8
     }
 }
 
+// A body that is one number.
+fn number_of(bytes: &[u8]) -> Result<u64, MessageFault>
+    ensures { Gives (λ n. n) result (all_at u64.read bytes.now) }
+{
+    let (number, rest) = u64_of(bytes)?;
+    if !rest.is_empty() {
+        return Err(MessageFault::Bad);
+    }
+    Ok(number)
+}
+
 // The body of a Submit, all of the bytes.
-#[tactic(auto, unfolding(crate::specs::Bodies::submit_at))]
+#[tactic(auto, unfolding(crate::specs::Bodies::submission))]
 fn submit_of(bytes: &[u8]) -> Result<Request<RESOURCES>, MessageFault>
-    ensures { Gives (λ x. x) result (submit_at resources bytes.now) }
+    ensures { Gives (λ x. x) result
+        (all_at (made_at (λ x. Request.Submit x.0 x.1) submission.read) bytes.now) }
 {
     let (path, rest) = text_of(bytes)?;
     let path = path_from(path)?;
@@ -81,23 +95,12 @@ fn submit_of(bytes: &[u8]) -> Result<Request<RESOURCES>, MessageFault>
     Ok(Request::Submit { path, user })
 }
 
-// The body of a RegisterMaster, all of the bytes.
-#[tactic(auto, unfolding(crate::specs::Bodies::register_master_at))]
-fn register_master_of(bytes: &[u8]) -> Result<Request<RESOURCES>, MessageFault>
-    ensures { Gives (λ x. x) result (register_master_at resources bytes.now) }
-{
-    let (app, rest) = u64_of(bytes)?;
-    if !rest.is_empty() {
-        return Err(MessageFault::Bad);
-    }
-    Ok(Request::RegisterMaster { app })
-}
-
 // The body of an Allocate, all of the bytes.
-#[tactic(auto, unfolding(crate::specs::Bodies::allocate_at))]
+#[tactic(auto, unfolding(crate::specs::Bodies::wishes))]
 fn allocate_of(alloc: Global, version: u8, bytes: &[u8]) -> Result<Request<RESOURCES>, MessageFault>
     ensures gives { GivesInMemory (λ x. x) result
-        (allocate_at resources (amounts_in version) bytes.now) }
+        (all_at (made_at (λ x. Request.Allocate x.0 x.1.0 x.1.1.0 x.1.1.1)
+        (wishes resources (amounts_in version)).read) bytes.now) }
     ensures memory { IsErrOf result MessageFault.NoMemory
         → HasItemsAt w16 12 bytes.now ⊎ HasItemsAt w16 14 bytes.now }
 {
@@ -116,23 +119,12 @@ fn allocate_of(alloc: Global, version: u8, bytes: &[u8]) -> Result<Request<RESOU
     })
 }
 
-// The body of a FinishMaster, all of the bytes.
-#[tactic(auto, unfolding(crate::specs::Bodies::finish_master_at))]
-fn finish_master_of(bytes: &[u8]) -> Result<Request<RESOURCES>, MessageFault>
-    ensures { Gives (λ x. x) result (finish_master_at resources bytes.now) }
-{
-    let (app, rest) = u64_of(bytes)?;
-    if !rest.is_empty() {
-        return Err(MessageFault::Bad);
-    }
-    Ok(Request::FinishMaster { app })
-}
-
 // The body of a RegisterNode, all of the bytes.
-#[tactic(auto, unfolding(crate::specs::Bodies::register_node_at))]
+#[tactic(auto, unfolding(crate::specs::Bodies::registration))]
 fn register_node_of(version: u8, bytes: &[u8]) -> Result<Request<RESOURCES>, MessageFault>
     ensures { Gives (λ x. x) result
-        (register_node_at resources (amounts_in version) bytes.now) }
+        (all_at (made_at (λ x. Request.RegisterNode x.0 x.1.0 x.1.1)
+        (registration resources (amounts_in version)).read) bytes.now) }
 {
     let (host, rest) = text_of(bytes)?;
     let host = host_from(host)?;
@@ -149,9 +141,10 @@ fn register_node_of(version: u8, bytes: &[u8]) -> Result<Request<RESOURCES>, Mes
 }
 
 // The body of a Heartbeat, all of the bytes.
-#[tactic(auto, unfolding(crate::specs::Bodies::heartbeat_at))]
+#[tactic(auto, unfolding(crate::specs::Bodies::node_report))]
 fn heartbeat_of(alloc: Global, bytes: &[u8]) -> Result<Request<RESOURCES>, MessageFault>
-    ensures gives { GivesInMemory (λ x. x) result (heartbeat_at resources bytes.now) }
+    ensures gives { GivesInMemory (λ x. x) result
+        (all_at (made_at (λ x. Request.Heartbeat x.0 x.1.0 x.1.1) node_report.read) bytes.now) }
     ensures memory { IsErrOf result MessageFault.NoMemory → HasItemsAt w16 12 bytes.now }
 {
     let (node, rest) = u64_of(bytes)?;
@@ -167,22 +160,10 @@ fn heartbeat_of(alloc: Global, bytes: &[u8]) -> Result<Request<RESOURCES>, Messa
     })
 }
 
-// The body of a NodeGone, all of the bytes.
-#[tactic(auto, unfolding(crate::specs::Bodies::node_gone_at))]
-fn node_gone_of(bytes: &[u8]) -> Result<Request<RESOURCES>, MessageFault>
-    ensures { Gives (λ x. x) result (node_gone_at resources bytes.now) }
-{
-    let (node, rest) = u64_of(bytes)?;
-    if !rest.is_empty() {
-        return Err(MessageFault::Bad);
-    }
-    Ok(Request::NodeGone { node })
-}
-
 // The body of a QueueInfo, all of the bytes.
-#[tactic(auto, unfolding(crate::specs::Bodies::queue_info_at))]
 fn queue_info_of(bytes: &[u8]) -> Result<Request<RESOURCES>, MessageFault>
-    ensures { Gives (λ x. x) result (queue_info_at resources bytes.now) }
+    ensures { Gives (λ x. x) result
+        (all_at (made_at Request.QueueInfo (text_that is_path).read) bytes.now) }
 {
     let (path, rest) = text_of(bytes)?;
     let path = path_from(path)?;
@@ -193,9 +174,10 @@ fn queue_info_of(bytes: &[u8]) -> Result<Request<RESOURCES>, MessageFault>
 }
 
 // The body of a SetQueueState, all of the bytes.
-#[tactic(auto, unfolding(crate::specs::Bodies::set_queue_state_at))]
+#[tactic(auto, unfolding(crate::specs::Bodies::queue_state))]
 fn set_queue_state_of(bytes: &[u8]) -> Result<Request<RESOURCES>, MessageFault>
-    ensures { Gives (λ x. x) result (set_queue_state_at resources bytes.now) }
+    ensures { Gives (λ x. x) result
+        (all_at (made_at (λ x. Request.SetQueueState x.0 x.1) queue_state.read) bytes.now) }
 {
     let (path, rest) = text_of(bytes)?;
     let path = path_from(path)?;
@@ -207,9 +189,9 @@ fn set_queue_state_of(bytes: &[u8]) -> Result<Request<RESOURCES>, MessageFault>
 }
 
 // The body of a ClusterInfo, which is empty.
-#[tactic(auto, unfolding(crate::specs::Bodies::cluster_info_at))]
 fn cluster_info_of(bytes: &[u8]) -> Result<Request<RESOURCES>, MessageFault>
-    ensures { Gives (λ x. x) result (cluster_info_at resources bytes.now) }
+    ensures { Gives (λ x. x) result
+        (all_at (made_at (λ x. Request.ClusterInfo) nothing.read) bytes.now) }
 {
     if !bytes.is_empty() {
         return Err(MessageFault::Bad);
@@ -218,9 +200,9 @@ fn cluster_info_of(bytes: &[u8]) -> Result<Request<RESOURCES>, MessageFault>
 }
 
 // The body of a Refresh, all of the bytes.
-#[tactic(auto, unfolding(crate::specs::Bodies::refresh_at))]
 fn refresh_of(alloc: Global, bytes: &[u8]) -> Result<Request<RESOURCES>, MessageFault>
-    ensures gives { GivesInMemory (λ x. x) result (refresh_at resources bytes.now) }
+    ensures gives { GivesInMemory (λ x. x) result
+        (all_at (made_at Request.Refresh lines.read) bytes.now) }
     ensures memory { IsErrOf result MessageFault.NoMemory → HasItemsAt w32 0 bytes.now }
 {
     let (text, rest) = lines_of(alloc, bytes)?;
@@ -231,9 +213,9 @@ fn refresh_of(alloc: Global, bytes: &[u8]) -> Result<Request<RESOURCES>, Message
 }
 
 // Version, kind and call id.
-#[tactic(auto, unfolding(crate::specs::Reading::head_at))]
+#[tactic(auto, unfolding(crate::specs::Reading::a_head))]
 pub(crate) fn head_of(bytes: &[u8]) -> Result<((u8, u8, u32), &[u8]), MessageFault>
-    ensures { Gives (λ x. ((x.0.0, (x.0.1, x.0.2)), x.1.now)) result (head_at bytes.now) }
+    ensures { Gives (λ x. ((x.0.0, (x.0.1, x.0.2)), x.1.now)) result (a_head.read bytes.now) }
 {
     let (version, rest) = byte_of(bytes)?;
     let (kind, rest) = byte_of(rest)?;
@@ -248,17 +230,24 @@ fn body_of(
     kind: u8,
     bytes: &[u8],
 ) -> Result<Request<RESOURCES>, MessageFault>
-    ensures gives { GivesInMemory (λ x. x) result (body_at resources version kind bytes.now) }
+    ensures gives { GivesInMemory (λ x. x) result
+        (all_at (body_at resources version kind) bytes.now) }
     ensures memory { IsErrOf result MessageFault.NoMemory → ListsItems kind bytes.now }
 {
     match kind {
         SUBMIT => submit_of(bytes),
-        REGISTER_MASTER => register_master_of(bytes),
+        REGISTER_MASTER => Ok(Request::RegisterMaster {
+            app: number_of(bytes)?,
+        }),
         ALLOCATE => allocate_of(alloc, version, bytes),
-        FINISH_MASTER => finish_master_of(bytes),
+        FINISH_MASTER => Ok(Request::FinishMaster {
+            app: number_of(bytes)?,
+        }),
         REGISTER_NODE => register_node_of(version, bytes),
         HEARTBEAT => heartbeat_of(alloc, bytes),
-        NODE_GONE => node_gone_of(bytes),
+        NODE_GONE => Ok(Request::NodeGone {
+            node: number_of(bytes)?,
+        }),
         QUEUE_INFO => queue_info_of(bytes),
         SET_QUEUE_STATE => set_queue_state_of(bytes),
         CLUSTER_INFO => cluster_info_of(bytes),

@@ -5,7 +5,7 @@ use Rattle.cap_grammar.proofs.laws.replies_have_one_spelling.Goals as goal
 pub returns-clause-some : goal.returns-clause-some
 returns-clause-some c = λ K head kind reply is id_fits is_kind of_kind fits. (
   reply_bytes head kind reply,
-  reply_is_bytes K head kind reply is (omega (arith, is_kind.1)) fits,
+  reply_is_bytes K head kind reply is (omega (arith, is_kind.1)) of_kind fits,
   record { spelled = refl; version_fits = is; id_fits = id_fits; is_kind = is_kind; of_kind = of_kind; fits = fits },
 )
 

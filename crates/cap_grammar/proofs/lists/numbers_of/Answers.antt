@@ -4,10 +4,10 @@ use Rattle.cap_grammar.proofs.ListLaws.{counted_start, counted_fails, more_step,
 use Rattle.cap_grammar.proofs.lists.numbers_of.Goals as goal
 
 pub returns-in_default-clause-gives : goal.returns-in_default-clause-gives
-returns-in_default-clause-gives c = counted_fails (number_at w64) w16 numbers_max _ c.in_default.ensures.gives.1
+returns-in_default-clause-gives c = counted_fails (number_at w64) (number_at w16) numbers_max _ c.in_default.ensures.gives.1
 
 pub loop-i-init : goal.loop-i-init
-loop-i-init c = record { rest = counted_start (number_at w64) w16 numbers_max _ _ _ _ c.in-Ok.ensures.gives c.in-Ok-with_capacity.ensures.items; count = (let none = c.in-Ok-with_capacity.ensures.items in ap length none) }
+loop-i-init c = record { rest = counted_start (number_at w64) (number_at w16) numbers_max _ _ _ _ c.in-Ok.ensures.gives c.in-Ok-with_capacity.ensures.items; count = (let none = c.in-Ok-with_capacity.ensures.items in ap length none) }
 
 pub returns-in_default-u64_of-clause-gives : goal.returns-in_default-u64_of-clause-gives
 returns-in_default-u64_of-clause-gives c = more_fails (number_at w64) _ _ c.in-Ok.length c.loop-i.i _ c.loop-i.invariant.rest (omega (arith, c.loop-i-test.true)) c.in_default-u64_of.ensures.1
@@ -24,7 +24,7 @@ returns-clause-gives c = rw c.of-2.ensures (more_ends (number_at w64) _ _ c.in-O
 pub returns-then-length-eq0-clause-gives : goal.returns-then-length-eq0-clause-gives
 returns-then-length-eq0-clause-gives c =
     let none = c.if-length-eq0.true in
-    rw c.of.ensures (more_ends (number_at w64) _ c.new.result.items c.in-Ok.length 0 _ (counted_start (number_at w64) w16 numbers_max _ c.in-Ok.length _ c.new.result.items c.in-Ok.ensures.gives c.new.ensures.items) (omega (arith, none)))
+    rw c.of.ensures (more_ends (number_at w64) _ c.new.result.items c.in-Ok.length 0 _ (counted_start (number_at w64) (number_at w16) numbers_max _ c.in-Ok.length _ c.new.result.items c.in-Ok.ensures.gives c.new.ensures.items) (omega (arith, none)))
 
 pub returns-in_default-with_capacity-clause-memory : goal.returns-in_default-with_capacity-clause-memory
 returns-in_default-with_capacity-clause-memory c = λ is. has_items w16 (λ n. nat_le n numbers_max) c.args.bytes.now c.in-Ok.length _ c.in-Ok.ensures.gives (let some = c.if-length-eq0.false in omega (arith, some))
