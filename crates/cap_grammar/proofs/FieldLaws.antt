@@ -1,5 +1,5 @@
 -- The laws of fields: what is read is spelled so and within its bounds, what is spelled is read again, and it is bytes.
-use Rattle.cap_grammar.proofs.Prelude.{Bool, List, None, Option, Some, [], ap, append_assoc, arith, cond, drop, false, get_or, inl, inr, length, length-append, refl, subst, suc, sym, take, true, zero, ℕ, ◌++◌, ◌+◌, ◌-◌, ◌<◌, ◌^◌, ◌∙◌, ◌∷◌, ◌≡◌, ◌≤◌, ◌⊎◌, cases_lt, eqb-true, le-ltb, ltb-false, nat_tests, append-nil, drop_at, get_or-append-add, get_or-take, get_or_past, length-replicate, length-take, nil_from_length, take-append-drop, take_at, All-nil, be_bytes_2, be_bytes_4, be_bytes_8, from_be_bytes-to_be_bytes_2, from_be_bytes-to_be_bytes_4, from_be_bytes-to_be_bytes_8, Width, byte_len, from_be_bytes, to_be_bytes, w16, w32, w64, AllByRecursion, flat_map, nat_le, nat_lt, ◌==◌, IsBytes, Field, bool, counted, made, nothing, number, pair, text_that, u16, u32, u64, u8, vector, all_at, byte_at, flag_at, flag_of_byte, number_at, pair_at, passing_at, text_at, times_at, ◌>>=◌, amount_at, amounts_at, counted_at, IsShownVector, shown_amounts, flag, limit, text, resource, IsVector, zeros}
+use Rattle.cap_grammar.proofs.Prelude.{Bool, List, None, Option, Some, [], ap, append_assoc, arith, cond, drop, false, get_or, inl, inr, length, length-append, refl, subst, suc, sym, take, true, zero, ℕ, ◌++◌, ◌+◌, ◌-◌, ◌<◌, ◌^◌, ◌∙◌, ◌∷◌, ◌≡◌, ◌≤◌, ◌⊎◌, cases_lt, eqb-true, le-ltb, ltb-false, nat_tests, append-nil, drop_at, get_or-append-add, get_or-take, get_or_past, length-replicate, length-take, nil_from_length, take-append-drop, take_at, All-nil, be_bytes_2, be_bytes_4, be_bytes_8, from_be_bytes-to_be_bytes_2, from_be_bytes-to_be_bytes_4, from_be_bytes-to_be_bytes_8, Width, byte_len, from_be_bytes, to_be_bytes, w16, w32, w64, AllByRecursion, flat_map, nat_le, nat_lt, ◌==◌, IsBytes, Field, bool, counted, made, nothing, number, pair, text_that, u16, u32, u64, u8, vector, all_at, byte_at, flag_at, flag_of_byte, made_at, number_at, pair_at, passing_at, text_at, times_at, ◌>>=◌, amount_at, amounts_at, counted_at, IsShownVector, shown_amounts, flag, limit, text, resource, IsVector, zeros}
 use Rattle.cap_grammar.proofs.SpelledBytes.{Small, one, both, two, word, long, a_flag}
 
 abbrev pub AreBytes : List ℕ → Type 0
@@ -162,6 +162,10 @@ is_made {A} {B} make parts G {f} are is = record {
   again = λ y rest fits. ap (λ (o : Option (A × List ℕ)). o >>= λ x. Some (make x.0, x.1)) (is.again (parts y) rest (are.from y fits)) ∙ ap (λ (z : B). Some (z, rest)) (are.forth y fits);
   bytes = λ y fits. is.bytes (parts y) (are.from y fits);
 }
+
+-- what is spelled is read again as what is made of it, whatever follows, and is bytes
+pub made_again : {A B : Type 0} {f : Field A} (make : A → B) → IsField f → (x : A) → f.Fits x → ((rest : List ℕ) → made_at make f.read (f.spell x ++ rest) ≡ Some (make x, rest)) × IsBytes (f.spell x)
+made_again make is x fits = (λ rest. rw (is.again x rest fits) refl, is.bytes x fits)
 
 -- what is read of all of the bytes
 pub all_read : {A : Type 0} (read : List ℕ → Option (A × List ℕ)) (bytes : List ℕ) (x : A) → all_at read bytes ≡ Some x → read bytes ≡ Some (x, [])

@@ -1,14 +1,13 @@
 mod Prelude
-pub mod VersionLaws
 pub mod Lengths
 pub mod ListLaws
 pub mod Appends
-pub mod FieldLaws
-pub mod ShownLaws
-pub mod RequestFields
-pub mod ReplyFields
 pub mod SpelledBytes
-pub mod KindLaws
+pub mod FieldLaws
+pub mod VersionLaws
+pub mod ShownLaws
+pub mod RequestKinds
+pub mod ReplyKinds
 pub mod RequestLaws
 pub mod ItemLaws
 pub mod ReplyLaws

@@ -3,11 +3,9 @@ use Rattle.cap_grammar.proofs.Prelude.{List, Option, Some, ap, arith, refl, subs
 use Rattle.cap_grammar.specs.declared.answers.Answer as declared
 use Rattle.cap_grammar.specs.declared.answers.Answer.TheVariants as answers
 use Rattle.cap_grammar.proofs.FieldLaws.{some_is}
-use Rattle.cap_grammar.proofs.RequestFields.{head_again}
 use Rattle.cap_grammar.proofs.ShownLaws.{body_shown, shown_of_kind, of_kind_shown, all_of_reply}
-use Rattle.cap_grammar.proofs.VersionLaws.{spelled_among, version_small}
-use Rattle.cap_grammar.proofs.SpelledBytes.{one, both, word}
-use Rattle.cap_grammar.proofs.KindLaws.{reply_body_at, reply_body_again}
+use Rattle.cap_grammar.proofs.VersionLaws.{spelled_among, head_again, headed}
+use Rattle.cap_grammar.proofs.ReplyKinds.{reply_body_at, reply_body_again}
 
 abbrev Answer : ℕ → Type 0
 Answer K = Head × (ℕ × Reply K)
@@ -22,7 +20,7 @@ reply_at K bytes = do
 reply_again : {K : ℕ} (bytes : List ℕ) (head : Head) (kind : ℕ) (reply : Reply K) → IsReply bytes head kind reply → reply_at K bytes ≡ Some (head, (kind, shown (amounts_in head.version) reply))
 reply_again {K} bytes head kind reply is =
     let le = spelled_among K head.version is.version_fits in
-    let front = head_again head.version kind head.call_id (reply_body head.version reply) (version_small K head.version is.version_fits) (omega (arith, is.is_kind.1)) is.id_fits in
+    let front = head_again K head kind (reply_body head.version reply) is.version_fits (omega (arith, is.is_kind.1)) is.id_fits in
     ap (reply_at K) is.spelled ∙ rw (front, (reply_body_again K head.version le kind reply is.of_kind is.fits).0) refl
 
 pub one_reply : (K : ℕ) (bytes : List ℕ) (head head' : Head) (kind kind' : ℕ) (reply reply' : Reply K) → IsReply bytes head kind reply → IsReply bytes head' kind' reply' →
@@ -72,7 +70,4 @@ one_answer bytes (answers.Fault status) (answers.Reply head kind reply) says say
 one_answer bytes (answers.Fault status) (answers.Fault status') says says' = let a = says.1 in let b = says'.1 in cc (a, b)
 
 pub reply_is_bytes : (K : ℕ) (head : Head) (kind : ℕ) (r : Reply K) → is_version K head.version ≡ true → kind < 256 → IsOfKind kind r → FitsReply r → IsBytes (reply_bytes head kind r)
-reply_is_bytes K head kind r is lt of_kind fits =
-    let body = (reply_body_again K head.version (spelled_among K head.version is) kind r of_kind fits).1 in
-    one head.version (kind ∷ to_be_bytes w32 head.call_id ++ reply_body head.version r) (version_small K head.version is)
-    (one kind (to_be_bytes w32 head.call_id ++ reply_body head.version r) lt (both (to_be_bytes w32 head.call_id) (reply_body head.version r) (word head.call_id) body))
+reply_is_bytes K head kind r is lt of_kind fits = headed K head kind (reply_body head.version r) is lt (reply_body_again K head.version (spelled_among K head.version is) kind r of_kind fits).1

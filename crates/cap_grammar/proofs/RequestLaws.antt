@@ -2,10 +2,8 @@
 use Rattle.cap_grammar.proofs.Prelude.{Err, List, Option, Some, [], ap, arith, refl, subst, suc, sym, true, zero, ℕ, ◌++◌, ◌∙◌, ◌∷◌, ◌≡◌, append-nil, to_be_bytes, w32, IfOk, IsErrOf, Ok, Result, slice_index, resources, IsBytes, body_at, registration, ◌>>=◌, amount_at, amounts_at, node_with_two_amounts, GivesInMemory, a_head, request_at, FitsRequest, IsNoRequest, IsRequest, kind_of, request_body, request_bytes, resource, is_version, MessageFault, NoMemory, Head, Request, IsWithin, amount_max}
 use Rattle.cap_grammar.specs.declared.fault.MessageFault.TheVariants as faults
 use Rattle.cap_grammar.proofs.FieldLaws.{AreBytes, AreBytes-past, bind_then, guard_then, some_is, all_read, all_again}
-use Rattle.cap_grammar.proofs.RequestFields.{head_takes, head_again}
-use Rattle.cap_grammar.proofs.VersionLaws.{spelled_among, version_small}
-use Rattle.cap_grammar.proofs.SpelledBytes.{one, both, word}
-use Rattle.cap_grammar.proofs.KindLaws.{body_takes, body_again, kind_fits}
+use Rattle.cap_grammar.proofs.VersionLaws.{spelled_among, head_takes, head_again, headed}
+use Rattle.cap_grammar.proofs.RequestKinds.{body_takes, body_again, kind_fits}
 
 request_takes : (K : ℕ) (bytes : List ℕ) (head : Head) (r : Request K) → AreBytes bytes → request_at K bytes ≡ Some (head, r) → IsRequest bytes head r
 unfolding request_at
@@ -32,7 +30,7 @@ request_again : (K : ℕ) (bytes : List ℕ) (head : Head) (r : Request K) → I
 unfolding request_at
 request_again K bytes head r is =
     let le = spelled_among K head.version is.version_fits in
-    let front = head_again head.version (kind_of r) head.call_id (request_body head.version r) (version_small K head.version is.version_fits) (kind_fits r) is.id_fits in
+    let front = head_again K head (kind_of r) (request_body head.version r) is.version_fits (kind_fits r) is.id_fits in
     let body = all_again (body_at K head.version (kind_of r)) (request_body head.version r) r (body_again K head.version le r is.fits).0 in
     ap (request_at K) is.spelled ∙ rw (front, is.version_fits, body) refl
 
@@ -82,7 +80,7 @@ front_at K bytes = a_head.read bytes >>= λ h. body_at K h.0.0 h.0.1.0 h.1 >>= �
 front_again : {K : ℕ} (bytes rest : List ℕ) (head : Head) (r : Request K) → IsRequest bytes head r → front_at K (bytes ++ rest) ≡ Some ((head, r), rest)
 front_again {K} bytes rest head r is =
     let le = spelled_among K head.version is.version_fits in
-    let front = head_again head.version (kind_of r) head.call_id (request_body head.version r ++ rest) (version_small K head.version is.version_fits) (kind_fits r) is.id_fits in
+    let front = head_again K head (kind_of r) (request_body head.version r ++ rest) is.version_fits (kind_fits r) is.id_fits in
     ap (λ (b : List ℕ). front_at K (b ++ rest)) is.spelled ∙ rw (front, (body_again K head.version le r is.fits).0 rest) refl
 
 pub none_begins_another : (K : ℕ) (bytes rest : List ℕ) (head head' : Head) (request request' : Request K) → IsRequest bytes head request → IsRequest (bytes ++ rest) head' request' → rest ≡ []
@@ -93,9 +91,7 @@ none_begins_another K bytes rest head head' request request' is is' =
     ap (λ (p : (Head × Request K) × List ℕ). p.1) same
 
 pub request_is_bytes : (K : ℕ) (head : Head) (r : Request K) → is_version K head.version ≡ true → FitsRequest head.version r → IsBytes (request_bytes head r)
-request_is_bytes K head r is fits =
-    one head.version (kind_of r ∷ to_be_bytes w32 head.call_id ++ request_body head.version r) (version_small K head.version is)
-    (one (kind_of r) (to_be_bytes w32 head.call_id ++ request_body head.version r) (kind_fits r) (both (to_be_bytes w32 head.call_id) (request_body head.version r) (word head.call_id) (body_again K head.version (spelled_among K head.version is) r fits).1))
+request_is_bytes K head r is fits = headed K head (kind_of r) (request_body head.version r) is (kind_fits r) (body_again K head.version (spelled_among K head.version is) r fits).1
 
 -- ---- what a function that reads so returns
 
