@@ -15,12 +15,7 @@ AreBytes-take n bytes h i =
       | inr le ↦ rw (get_or_past (take n bytes) i 0 (omega (arith, length-take n bytes))) (omega arith)
     ]
 
--- the value of a step that did not fail
-pub bind_some : {A B : Type 0} (r : Option A) (f : A → Option B) (y : B) → (r >>= f) ≡ Some y → (x : A) × (r ≡ Some x) × (f x ≡ Some y)
-bind_some (Some x) f y e = (x, refl, e)
-bind_some None f y e = absurd cc
-
--- the same, for a proof that goes on with plain variables
+-- a step that did not fail, and what follows it
 pub bind_then : {A B : Type 0} {G : Type 0} (r : Option A) (f : A → Option B) (y : B) → (r >>= f) ≡ Some y → ((x : A) → r ≡ Some x → f x ≡ Some y → G) → G
 bind_then (Some x) f y e k = k x refl e
 bind_then None f y e k = absurd cc
@@ -42,11 +37,27 @@ chosen false x y z e = inr (refl, e)
 pub some_is : {A : Type 0} (x y : A) (o : Option A) → o ≡ Some x → o ≡ Some y → x ≡ y
 some_is x y o e f = cc
 
+-- what is known of bytes that a field was read from
+abbrev pub Taken : {A : Type 0} → Field A → List ℕ → A → List ℕ → Type 0
+Taken f bytes x rest = (bytes ≡ f.spell x ++ rest) × f.Fits x
+
 -- the laws of a field
 pub record IsField {A : Type 0} (f : Field A) : Type 0 where
-  pub takes : (bytes : List ℕ) (x : A) (rest : List ℕ) → AreBytes bytes → f.read bytes ≡ Some (x, rest) → (bytes ≡ f.spell x ++ rest) × f.Fits x
+  pub takes : (bytes : List ℕ) (x : A) (rest : List ℕ) → AreBytes bytes → f.read bytes ≡ Some (x, rest) → Taken f bytes x rest
   pub again : (x : A) (rest : List ℕ) → f.Fits x → f.read (f.spell x ++ rest) ≡ Some (x, rest)
   pub bytes : (x : A) → f.Fits x → IsBytes (f.spell x)
+
+-- what was made is what was returned
+returned : {A : Type 0} (f : Field A) (bytes : List ℕ) {u v : A × List ℕ} → Some u ≡ Some v → Taken f bytes u.0 u.1 → Taken f bytes v.0 v.1
+returned {A} f bytes {u} {v} e t = let same : u ≡ v = cc e in subst (λ (y : A × List ℕ). Taken f bytes y.0 y.1) same t
+
+-- a field was read, and then what follows it
+pub read_then : {A B : Type 0} {G : Type 0} {f : Field A} → IsField f → (bytes : List ℕ) → AreBytes bytes → (more : A × List ℕ → Option B) (y : B) → (f.read bytes >>= more) ≡ Some y →
+    ((x : A) (rest : List ℕ) → Taken f bytes x rest → AreBytes rest → more (x, rest) ≡ Some y → G) → G
+read_then {A} {B} {G} {f} is bytes fits more y e then_ =
+    bind_then (f.read bytes) more y e (λ u read e'.
+    let t = is.takes bytes u.0 u.1 fits read in
+    then_ u.0 u.1 t (AreBytes-past (f.spell u.0) bytes u.1 t.0 fits) e')
 
 -- ---- putting fields together
 
@@ -57,13 +68,9 @@ joined a x b y c p q = p ∙ ap (λ (t : List ℕ). x ++ t) q ∙ sym (append_as
 pub is_pair : {A B : Type 0} {f : Field A} {g : Field B} → IsField f → IsField g → IsField (pair f g)
 is_pair {A} {B} {f} {g} is is' = record {
   takes = λ bytes x rest fits e.
-      let a = bind_some (f.read bytes) (λ u. g.read u.1 >>= λ v. Some ((u.0, v.0), v.1)) (x, rest) e in
-      let b = bind_some (g.read a.0.1) (λ v. Some ((a.0.0, v.0), v.1)) (x, rest) a.2 in
-      let first = is.takes bytes a.0.0 a.0.1 fits a.1 in
-      let second = is'.takes a.0.1 b.0.0 b.0.1 (AreBytes-past (f.spell a.0.0) bytes a.0.1 first.0 fits) b.1 in
-      let made : (A × B) × List ℕ = ((a.0.0, b.0.0), b.0.1) in
-      let same : made ≡ (x, rest) = cc (b.2) in
-      subst (λ (y : (A × B) × List ℕ). (bytes ≡ (f.spell y.0.0 ++ g.spell y.0.1) ++ y.1) × (f.Fits y.0.0 × g.Fits y.0.1)) same (joined bytes (f.spell a.0.0) a.0.1 (g.spell b.0.0) b.0.1 first.0 second.0, (first.1, second.1));
+      read_then is bytes fits _ _ e (λ a after t fits' e'.
+      read_then is' after fits' _ _ e' (λ b end t' fits'' e''.
+      returned (pair f g) bytes e'' (joined bytes (f.spell a) after (g.spell b) end t.0 t'.0, (t.1, t'.1))));
   again = λ x rest fits. ap (pair_at f.read g.read) (append_assoc (f.spell x.0) (g.spell x.1) rest) ∙ rw (is.again x.0 (g.spell x.1 ++ rest) fits.0, is'.again x.1 rest fits.1) refl;
   bytes = λ x fits. both (f.spell x.0) (g.spell x.1) (is.bytes x.0 fits.0) (is'.bytes x.1 fits.1);
 }
@@ -75,11 +82,9 @@ passing test f = record { read = passing_at test f.read; spell = f.spell; Fits =
 pub is_passing : {A : Type 0} (test : A → Bool) {f : Field A} → IsField f → IsField (passing test f)
 is_passing {A} test {f} is = record {
   takes = λ bytes x rest fits e.
-      let a = bind_some (f.read bytes) (λ u. cond (test u.0) (Some u) None) (x, rest) e in
-      let g = guard_then (test a.0.0) (Some a.0) (x, rest) a.2 in
-      let same : a.0 ≡ (x, rest) = cc (g.1) in
-      let t = is.takes bytes a.0.0 a.0.1 fits a.1 in
-      subst (λ (y : A × List ℕ). (bytes ≡ f.spell y.0 ++ y.1) × (f.Fits y.0 × (test y.0 ≡ true))) same (t.0, (t.1, g.0));
+      read_then is bytes fits _ _ e (λ a after t fits' e'.
+      let g = guard_then (test a) (Some (a, after)) (x, rest) e' in
+      returned (passing test f) bytes g.1 (t.0, (t.1, g.0)));
   again = λ x rest fits. rw (is.again x rest fits.0, fits.1) refl;
   bytes = λ x fits. is.bytes x fits.0;
 }
@@ -89,19 +94,13 @@ abbrev pub times : {A : Type 0} → ℕ → Field A → Field (List A)
 times n f = record { read = times_at n f.read; spell = flat_map f.spell; Fits = λ xs. (length xs ≡ n) × AllByRecursion f.Fits xs }
 
 module _ {A : Type 0} (f : Field A) (is : IsField f) where
-  times_takes : (n : ℕ) (bytes : List ℕ) (xs : List A) (rest : List ℕ) → AreBytes bytes → times_at n f.read bytes ≡ Some (xs, rest) → (bytes ≡ flat_map f.spell xs ++ rest) × ((length xs ≡ n) × AllByRecursion f.Fits xs)
-  times_takes zero bytes xs rest fits e =
-      let made : List A × List ℕ = ([], bytes) in
-      let same : made ≡ (xs, rest) = cc (e) in
-      subst (λ (y : List A × List ℕ). (bytes ≡ flat_map f.spell y.0 ++ y.1) × ((length y.0 ≡ 0) × AllByRecursion f.Fits y.0)) same (refl, (refl, tt))
+  times_takes : (n : ℕ) (bytes : List ℕ) (xs : List A) (rest : List ℕ) → AreBytes bytes → times_at n f.read bytes ≡ Some (xs, rest) → Taken (times n f) bytes xs rest
+  times_takes zero bytes xs rest fits e = returned (times zero f) bytes e (refl, (refl, tt))
   times_takes (suc n) bytes xs rest fits e =
-      let a = bind_some (f.read bytes) (λ u. times_at n f.read u.1 >>= λ v. Some (u.0 ∷ v.0, v.1)) (xs, rest) e in
-      let b = bind_some (times_at n f.read a.0.1) (λ v. Some (a.0.0 ∷ v.0, v.1)) (xs, rest) a.2 in
-      let first = is.takes bytes a.0.0 a.0.1 fits a.1 in
-      let more = times_takes n a.0.1 b.0.0 b.0.1 (AreBytes-past (f.spell a.0.0) bytes a.0.1 first.0 fits) b.1 in
-      let made : List A × List ℕ = (a.0.0 ∷ b.0.0, b.0.1) in
-      let same : made ≡ (xs, rest) = cc (b.2) in
-      subst (λ (y : List A × List ℕ). (bytes ≡ flat_map f.spell y.0 ++ y.1) × ((length y.0 ≡ suc n) × AllByRecursion f.Fits y.0)) same (joined bytes (f.spell a.0.0) a.0.1 (flat_map f.spell b.0.0) b.0.1 first.0 more.0, (ap suc more.1.0, (first.1, more.1.1)))
+      read_then is bytes fits _ _ e (λ x after t fits' e'.
+      bind_then (times_at n f.read after) _ (xs, rest) e' (λ u read e''.
+      let more = times_takes n after u.0 u.1 fits' read in
+      returned (times (suc n) f) bytes e'' (joined bytes (f.spell x) after (flat_map f.spell u.0) u.1 t.0 more.0, (ap suc more.1.0, (t.1, more.1.1)))))
 
   times_again : (n : ℕ) (xs : List A) (rest : List ℕ) → (length xs ≡ n) × AllByRecursion f.Fits xs → times_at n f.read (flat_map f.spell xs ++ rest) ≡ Some (xs, rest)
   times_again zero [] rest fits = refl
@@ -125,14 +124,13 @@ is_counted {A} most {number} {f} small is_number is =
     let count = is_passing (λ n. nat_le n most) is_number in
     record {
       takes = λ bytes xs rest fits e.
-          let a = bind_some (passing_at (λ n. nat_le n most) number.read bytes) (λ n. times_at n.0 f.read n.1) (xs, rest) e in
-          let first = count.takes bytes a.0.0 a.0.1 fits a.1 in
-          let more = times_takes f is a.0.0 a.0.1 xs rest (AreBytes-past (number.spell a.0.0) bytes a.0.1 first.0 fits) a.2 in
-          let len : a.0.0 ≡ length xs = sym more.1.0 in
-          let passed : nat_le a.0.0 most ≡ true = first.1.1 in (
-            subst (λ n. bytes ≡ (number.spell n ++ flat_map f.spell xs) ++ rest) len (joined bytes (number.spell a.0.0) a.0.1 (flat_map f.spell xs) rest first.0 more.0),
+          read_then count bytes fits _ _ e (λ n after t fits' e'.
+          let more = times_takes f is n after xs rest fits' e' in
+          let len : n ≡ length xs = sym more.1.0 in
+          let passed : nat_le n most ≡ true = t.1.1 in (
+            subst (λ m. bytes ≡ (number.spell m ++ flat_map f.spell xs) ++ rest) len (joined bytes (number.spell n) after (flat_map f.spell xs) rest t.0 more.0),
             record { few = grind (arith, nat_tests, passed, len); each = more.1.1 },
-          );
+          ));
       again = λ xs rest fits.
           let few : length xs ≤ most = fits.few in
           let passes : nat_le (length xs) most ≡ true = grind (arith, nat_tests, few) in
@@ -153,12 +151,8 @@ pub record AreMade {A B : Type 0} (make : A → B) (parts : B → A) (F : A → 
 pub is_made : {A B : Type 0} (make : A → B) (parts : B → A) (G : B → Type 0) {f : Field A} → AreMade make parts f.Fits G → IsField f → IsField (made make parts G f)
 is_made {A} {B} make parts G {f} are is = record {
   takes = λ bytes y rest fits e.
-      let a = bind_some (f.read bytes) (λ x. Some (make x.0, x.1)) (y, rest) e in
-      let t = is.takes bytes a.0.0 a.0.1 fits a.1 in
-      let made : B × List ℕ = (make a.0.0, a.0.1) in
-      let same : made ≡ (y, rest) = cc (a.2) in
-      let spelled : bytes ≡ f.spell (parts (make a.0.0)) ++ a.0.1 = rw (are.back a.0.0 t.1) t.0 in
-      subst (λ (p : B × List ℕ). (bytes ≡ f.spell (parts p.0) ++ p.1) × G p.0) same (spelled, are.to a.0.0 t.1);
+      read_then is bytes fits _ _ e (λ x after t fits' e'.
+      returned (made make parts G f) bytes e' (t.0 ∙ ap (λ (z : A). f.spell z ++ after) (sym (are.back x t.1)), are.to x t.1));
   again = λ y rest fits. ap (λ (o : Option (A × List ℕ)). o >>= λ x. Some (make x.0, x.1)) (is.again (parts y) rest (are.from y fits)) ∙ ap (λ (z : B). Some (z, rest)) (are.forth y fits);
   bytes = λ y fits. is.bytes (parts y) (are.from y fits);
 }
@@ -182,17 +176,14 @@ all_again read spelled x again = ap (all_at read) (sym (append-nil spelled)) ∙
 -- ---- bytes and numbers
 
 pub is_nothing : IsField nothing
-is_nothing = record { takes = λ bytes x rest fits e. let made : Unit {0} × List ℕ = (tt, bytes) in let same : made ≡ (x, rest) = cc e in (ap (λ (p : Unit {0} × List ℕ). p.1) same, tt); again = λ x rest fits. refl; bytes = λ x fits. All-nil Small }
+is_nothing = record { takes = λ bytes x rest fits e. returned nothing bytes e (refl, tt); again = λ x rest fits. refl; bytes = λ x fits. All-nil Small }
 
 pub is_u8 : IsField u8
 is_u8 = record { takes = takes; again = λ b rest fits. refl; bytes = λ b fits. one b [] fits (All-nil Small) }
   where
-    takes : (bytes : List ℕ) (b : ℕ) (rest : List ℕ) → AreBytes bytes → byte_at bytes ≡ Some (b, rest) → (bytes ≡ b ∷ rest) × (b < 256)
+    takes : (bytes : List ℕ) (b : ℕ) (rest : List ℕ) → AreBytes bytes → byte_at bytes ≡ Some (b, rest) → Taken u8 bytes b rest
     takes [] b rest fits e = absurd cc
-    takes (x ∷ xs) b rest fits e =
-        let made : ℕ × List ℕ = (x, xs) in
-        let same : made ≡ (b, rest) = cc (e) in
-        subst (λ (p : ℕ × List ℕ). (x ∷ xs ≡ p.0 ∷ p.1) × (p.0 < 256)) same (refl, fits 0)
+    takes (x ∷ xs) b rest fits e = returned u8 (x ∷ xs) e (refl, fits 0)
 
 flag_byte : (b : ℕ) (holds : Bool) → flag_of_byte b ≡ Some holds → b ∷ [] ≡ flag holds
 flag_byte b holds e =
@@ -203,14 +194,11 @@ flag_byte b holds e =
           let same : true ≡ holds = cc (g.1) in rw (← same, eqb-true b 1 g.0) refl
     ]
 
-flag_takes : (bytes : List ℕ) (holds : Bool) (rest : List ℕ) → AreBytes bytes → flag_at bytes ≡ Some (holds, rest) → (bytes ≡ flag holds ++ rest) × Unit {0}
+flag_takes : (bytes : List ℕ) (holds : Bool) (rest : List ℕ) → AreBytes bytes → flag_at bytes ≡ Some (holds, rest) → Taken bool bytes holds rest
 flag_takes bytes holds rest fits e =
-    let a = bind_some (byte_at bytes) (λ u. flag_of_byte u.0 >>= λ v. Some (v, u.1)) (holds, rest) e in
-    let b = bind_some (flag_of_byte a.0.0) (λ v. Some (v, a.0.1)) (holds, rest) a.2 in
-    let t = is_u8.takes bytes a.0.0 a.0.1 fits a.1 in
-    let made : Bool × List ℕ = (b.0, a.0.1) in
-    let same : made ≡ (holds, rest) = cc (b.2) in
-    subst (λ (p : Bool × List ℕ). (bytes ≡ flag p.0 ++ p.1) × Unit {0}) same (subst (λ (s : List ℕ). bytes ≡ s ++ a.0.1) (flag_byte a.0.0 b.0 b.1) t.0, tt)
+    read_then is_u8 bytes fits _ _ e (λ b after t fits' e'.
+    bind_then (flag_of_byte b) _ (holds, rest) e' (λ flag_is is e''.
+    returned bool bytes e'' (t.0 ∙ ap (λ (s : List ℕ). s ++ after) (flag_byte b flag_is is), tt)))
 
 flag_again : (holds : Bool) (rest : List ℕ) → flag_at (flag holds ++ rest) ≡ Some (holds, rest)
 flag_again false rest = refl
@@ -253,7 +241,7 @@ wide64 = record {
   bytes = long;
 }
 
-number_takes : (w : Width) (limit : ℕ) (wide : IsWide w limit) (bytes : List ℕ) (n : ℕ) (rest : List ℕ) → AreBytes bytes → number_at w bytes ≡ Some (n, rest) → (bytes ≡ to_be_bytes w n ++ rest) × (n < limit)
+number_takes : (w : Width) (limit : ℕ) (wide : IsWide w limit) (bytes : List ℕ) (n : ℕ) (rest : List ℕ) → AreBytes bytes → number_at w bytes ≡ Some (n, rest) → Taken (number w limit) bytes n rest
 number_takes w limit wide bytes n rest fits e =
     let g = guard_else (nat_lt (length bytes) (byte_len w)) (from_be_bytes w (take (byte_len w) bytes), drop (byte_len w) bytes) (n, rest) e in
     let long : byte_len w ≤ length bytes = ltb-false _ _ g.0 in
@@ -300,10 +288,9 @@ text_again t rest =
 pub is_text_that : (test : List ℕ → Bool) → ((t : List ℕ) → test t ≡ true → IsBytes (text t)) → IsField (text_that test)
 is_text_that test short = record {
   takes = λ bytes t rest fits e.
-      let a = bind_some (text_at bytes) (λ u. cond (test u.0) (Some u) None) (t, rest) e in
-      let g = guard_then (test a.0.0) (Some a.0) (t, rest) a.2 in
-      let same : a.0 ≡ (t, rest) = cc (g.1) in
-      subst (λ (y : List ℕ × List ℕ). (bytes ≡ text y.0 ++ y.1) × (test y.0 ≡ true)) same (text_takes bytes a.0.0 a.0.1 fits a.1, g.0);
+      bind_then (text_at bytes) _ (t, rest) e (λ u read e'.
+      let g = guard_then (test u.0) (Some u) (t, rest) e' in
+      returned (text_that test) bytes g.1 (text_takes bytes u.0 u.1 fits read, g.0));
   again = λ t rest fits. rw (text_again t rest, fits) refl;
   bytes = short;
 }

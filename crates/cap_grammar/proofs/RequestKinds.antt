@@ -1,7 +1,7 @@
 -- The laws of each kind of request: what is read of a body is spelled so, what is spelled so is read, and is bytes.
 use Rattle.cap_grammar.proofs.Prelude.{List, Option, Some, ap, arith, inl, inr, refl, subst, sym, ℕ, ◌++◌, ◌<◌, ◌∙◌, ◌≡◌, ◌≤◌, eqb-true, if◌then◌else◌, ◌==◌, asks_max, numbers_max, text_max, IsBytes, ask_of, lines, numbers, wish_of, an_ask, body_at, node_report, queue_state, registration, submission, wishes, Field, text_that, made_at, FitsAsk, FitsRequest, IsKind, kind_of, request_body, text, ask, list_bytes, is_host, is_path, is_place, is_rack, is_user, amounts_in, Request, amount_max}
 use Rattle.cap_grammar.proofs.SpelledBytes.{a_host, a_rack, a_name, a_path}
-use Rattle.cap_grammar.proofs.FieldLaws.{AreBytes, bind_then, chosen, IsField, made_again, is_pair, is_nothing, is_u8, is_u16, is_u32, is_u64, is_bool, is_text_that, is_vector, is_made, is_counted}
+use Rattle.cap_grammar.proofs.FieldLaws.{AreBytes, read_then, chosen, IsField, made_again, is_pair, is_nothing, is_u8, is_u16, is_u32, is_u64, is_bool, is_text_that, is_vector, is_made, is_counted}
 
 -- ---- the fields of bodies
 
@@ -58,11 +58,10 @@ pub record IsBody {K : ℕ} (version kind : ℕ) (bytes : List ℕ) (r : Request
 takes : {K : ℕ} {A : Type 0} {f : Field A} {version kind : ℕ} {bytes : List ℕ} {r : Request K} {rest : List ℕ} → AreBytes bytes → (make : A → Request K) → IsField f
     → ((x : A) → f.Fits x → (kind_of (make x) ≡ kind) × (f.spell x ≡ request_body version (make x)) × FitsRequest version (make x)) → made_at make f.read bytes ≡ Some (r, rest) → IsBody version kind bytes r rest
 takes {K} {A} {f} {version} {kind} {bytes} {r} {rest} at make is means e =
-    bind_then (f.read bytes) (λ x. Some (make x.0, x.1)) (r, rest) e (λ x read made_of.
-    let t = is.takes bytes x.0 x.1 at read in
-    let m = means x.0 t.1 in
-    let same : (make x.0, x.1) ≡ (r, rest) = cc made_of in
-    subst (λ (p : Request K × List ℕ). IsBody version kind bytes p.0 p.1) same (record { kind_is = m.0; spelled = t.0 ∙ ap (λ (s : List ℕ). s ++ x.1) m.1; fits = m.2 }))
+    read_then is bytes at _ _ e (λ x after t fits made_of.
+    let m = means x t.1 in
+    let same : (make x, after) ≡ (r, rest) = cc made_of in
+    subst (λ (p : Request K × List ℕ). IsBody version kind bytes p.0 p.1) same (record { kind_is = m.0; spelled = t.0 ∙ ap (λ (s : List ℕ). s ++ after) m.1; fits = m.2 }))
 
 -- the kind is this one, or another
 either : {K : ℕ} {version kind : ℕ} {bytes : List ℕ} {r : Request K} {rest : List ℕ} {x y : Option (Request K × List ℕ)} (k : ℕ) → (x ≡ Some (r, rest) → IsBody version k bytes r rest) → (y ≡ Some (r, rest) → IsBody version kind bytes r rest)
