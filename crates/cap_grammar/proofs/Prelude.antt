@@ -15,7 +15,7 @@ pub use Rattle.cap_base.specs.Limits.{asks_max, news_max, numbers_max, resources
 pub use Rattle.cap_base.specs.Texts.{is_graphic, is_text}
 pub use Rattle.cap_frames.specs.Stream.{IsBytes}
 pub use Rattle.cap_grammar.specs.Answers.{Says}
-pub use Rattle.cap_grammar.specs.Bodies.{HasItemsAt, ListsItems, Wish, ask_of, lines, numbers, wish, wish_of}
+pub use Rattle.cap_grammar.specs.Bodies.{HasItemsAt, ListsItems, ask_of, lines, numbers, wish_of}
 unfoldable pub use Rattle.cap_grammar.specs.Bodies.{an_ask, body_at, node_report, queue_state, registration, submission, wishes}
 pub use Rattle.cap_grammar.specs.Descriptions.{Field, bool, counted, made, nothing, number, pair, text_that, u16, u32, u64, u8, vector}
 pub use Rattle.cap_grammar.specs.Fields.{all_at, byte_at, flag_at, flag_of_byte, made_at, number_at, pair_at, passing_at, text_at, times_at, ◌>>=◌}
@@ -24,14 +24,13 @@ pub use Rattle.cap_grammar.specs.Laws.{node_with_two_amounts}
 pub use Rattle.cap_grammar.specs.Reading.{CarriesItems, GivesInMemory}
 unfoldable pub use Rattle.cap_grammar.specs.Reading.{a_head, request_at}
 pub use Rattle.cap_grammar.specs.Shown.{IsShownVector, shown, shown_amounts, shown_grant, shown_news}
-pub use Rattle.cap_grammar.specs.Spelling.{FitsAllocated, FitsAsk, FitsBeat, FitsByte, FitsEnd, FitsGrant, FitsListed, FitsNumber, FitsRefusal, FitsReply, FitsRequest, IsKind, IsNoRequest, IsOfKind, IsReply, IsRequest, byte, counted_list, fault_reply, flag, kind_of, limit, refusal_body, refusal_bytes, reply_body, reply_bytes, request_body, request_bytes, text}
+pub use Rattle.cap_grammar.specs.Spelling.{FitsAsk, FitsEnd, FitsGrant, FitsListed, FitsRefusal, FitsReply, FitsRequest, IsKind, IsNoRequest, IsOfKind, IsReply, IsRequest, byte, fault_reply, flag, kind_of, limit, refusal_bytes, reply_body, reply_bytes, request_body, request_bytes, text}
 unfoldable pub use Rattle.cap_grammar.specs.Spelling.{allocate_bytes, ask, beat, cluster_report, end, grant, list_bytes, queue_report, resource}
 pub use Rattle.cap_grammar.specs.Texts.{is_host, is_path, is_place, is_rack, is_user}
 pub use Rattle.cap_grammar.specs.Versions.{amounts_in, is_version}
 pub use Rattle.cap_grammar.specs.declared.fault.MessageFault.{MessageFault}
 pub use Rattle.cap_grammar.specs.declared.fault.MessageFault.TheVariants.{NoMemory}
 pub use Rattle.cap_grammar.specs.declared.head.Head.{Head}
-pub use Rattle.cap_model.specs.Asks.{Ask}
 pub use Rattle.cap_model.specs.News.{AllocateReply, Grant, Reply, cause_number}
 pub use Rattle.cap_model.specs.Refusals.{status_of}
 pub use Rattle.cap_model.specs.declared.ask.Key.{Key}
@@ -39,8 +38,5 @@ pub use Rattle.cap_model.specs.declared.news.Cause.{Cause}
 pub use Rattle.cap_model.specs.declared.news.End.{End}
 pub use Rattle.cap_model.specs.declared.refusal.Refusal.{Refusal}
 pub use Rattle.cap_model.specs.declared.refusal.Refusal.TheVariants.{AlreadyRegistered, AskTooLarge, BadResponseId, BadSettings, HostTaken, NotLeaf, NotRegistered, NumbersSpent, OtherQueues, QueueStopped, TooManyApplications, TooManyAsks, TooManyNodes, TotalTooLarge, UnknownApplication, UnknownNode, UnknownQueue, ZeroResource}
-pub use Rattle.cap_model.specs.declared.replies.HeartbeatReply.{HeartbeatReply}
-pub use Rattle.cap_model.specs.declared.report.ClusterReport.{ClusterReport}
-pub use Rattle.cap_model.specs.declared.report.QueueReport.{QueueReport}
 pub use Rattle.cap_model.specs.declared.request.Request.{Request}
 pub use Rattle.cap_vector.specs.Vector.{IsResource, IsSum, IsVector, IsWithin, amount_max, sum_max, zeros}

@@ -20,9 +20,6 @@ submission = pair (text_that is_path) (text_that is_user)
 abbrev pub Wish : Type 0
 Wish = ℕ × (ℕ × (ℕ × (List ℕ × List ℕ)))
 
-abbrev pub wish : (K n : ℕ) → Field Wish
-wish K n = pair u32 (pair u64 (pair u32 (pair (vector K n amount_max) (text_that is_place))))
-
 abbrev pub ask_of : Wish → Ask
 ask_of x = record { key = record { priority = x.0; request = x.1.0 }; count = x.1.1.0; resource = x.1.1.1.0; place = x.1.1.1.1 }
 
@@ -30,7 +27,7 @@ abbrev pub wish_of : Ask → Wish
 wish_of a = (a.key.priority, (a.key.request, (a.count, (a.resource, a.place))))
 
 unfoldable pub an_ask : (K n : ℕ) → Field Ask
-an_ask K n = made ask_of wish_of (FitsAsk K n) (wish K n)
+an_ask K n = made ask_of wish_of (FitsAsk K n) (pair u32 (pair u64 (pair u32 (pair (vector K n amount_max) (text_that is_place)))))
 
 -- containers
 abbrev pub numbers : Field (List ℕ)
