@@ -1,10 +1,9 @@
 -- Calls that are made, and what comes next.
-use Rattle.cap_workers.proofs.Prelude.{◌≡◌, ℕ, List, [], ◌∷◌, ◌++◌, Option, Some, None, refl, ap, sym, ◌∙◌, subst, append-nil, inl, inr, resources, Request, Reply, frame_of, IsOfKind, kind_of, fault_reply, Answers, SessionState, OpenRequest, Continues, NextGives, EndsNow, MayAnswer, SpellsAnswer, after_answer, with_answer, SessionCause, Next, continues_bad, continues_answer, HasMore, sitting, Moment, Noted, Sitting, pending_request, HaveReceipts, Serves, ServesAll, IsSealed, IsPause, IsCallMade}
+use Rattle.cap_workers.proofs.Prelude.{◌≡◌, ℕ, List, [], ◌∷◌, ◌++◌, Option, Some, None, ap, sym, ◌∙◌, append-nil, inl, inr, resources, Request, frame_of, fault_reply, Answers, SessionState, OpenRequest, NextGives, EndsNow, open_requests, SessionCause, Next, continues_bad, Sitting, Serves, ServesAll, IsSealed, IsPause}
 use Rattle.cap_session.specs.declared.session.SessionCause.TheVariants as causes
 use Rattle.cap_session.specs.declared.session.Next.TheVariants as nexts
-use Rattle.cap_shared.specs.declared.history.NotedAnswer.TheVariants as answer
 use Rattle.cap_workers.specs.declared.sessions.Pause.TheVariants as pauses
-use Rattle.cap_workers.proofs.Receipts.{serves_none, serves_quiet, serves_then, serves_noted}
+use Rattle.cap_workers.proofs.Receipts.{serves_quiet, serves_then}
 
 -- after what was answered before
 pub sealed_then : {a b c : SessionState} {s t u : Sitting} {limit : ℕ} {q : Request resources} → Serves a b s t [] [] → IsSealed limit q b c t u → IsSealed limit q a c s u

@@ -34,8 +34,9 @@ pub use Rattle.cap_shared.specs.declared.history.Moment.{Moment}
 pub use Rattle.cap_shared.specs.declared.history.Moment.TheVariants.{Entered, Noted}
 pub use Rattle.cap_shared.specs.declared.history.Sitting.{Sitting}
 pub use Rattle.cap_sights.proofs.Alike.{same_choice}
-pub use Rattle.cap_workers.specs.Batches.{AnsweredAll, AreOfKind, CallsMade, IsAnsweredBy, IsBatchMade, IsCalled, asked, none_asked, replies_of, requests_of}
+pub use Rattle.cap_workers.specs.Batches.{AnsweredAll, AreOfKind, CallsAll, CallsMade, IsAnsweredBy, IsBatchMade, IsCalled, asked, none_asked, replies_of, requests_of}
 pub use Rattle.cap_workers.specs.Sessions.{GoesOn, HaveReceipts, IsAtRest, IsLost, IsPause, IsRead, IsRound, IsSealed, IsServed, IsWritten, IsWrittenOut, ReadsOn, Serves, ServesAll, ServesToFault, after_reads, end_of, made, none_made, reader_at, starved, writer_at}
 pub use Rattle.cap_workers.specs.Worker.{Chooses, IsCommitted, end_by}
+pub use Rattle.cap_workers.specs.declared.batches.Called.{Called}
 pub use Rattle.cap_workers.specs.declared.sessions.EndCause.{EndCause}
 pub use Rattle.cap_workers.specs.declared.sessions.Pause.{Pause}

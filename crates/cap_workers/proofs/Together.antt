@@ -1,6 +1,7 @@
 -- Calls that are made and answered together.
-use Rattle.cap_workers.proofs.Prelude.{◌≡◌, ℕ, ◌+◌, ◌<◌, List, [], ◌∷◌, ◌++◌, Some, None, refl, ap, ap₂, sym, ◌∙◌, subst, append_assoc, append-nil, length, take, drop, take-append-drop, take-append_seam, zero, suc, slice_index_or, arith, take-length, length-map, map-append, resources, Request, Reply, IsOfKind, kind_of, Call, MayAnswer, SpellsAnswer, OpensNext, open_requests, SessionState, OpenRequest, Continues, after_answer, with_answer, continues_none, continues_then, continues_answer, HasMore, sitting, Entry, Moment, Noted, Sitting, HaveReceipts, none_made, Serves, IsSealed, requests_of, replies_of, AreOfKind, none_asked, asked, CallsMade, IsAnsweredBy, AnsweredAll, IsBatchMade}
+use Rattle.cap_workers.proofs.Prelude.{◌≡◌, ℕ, ◌+◌, ◌<◌, List, [], ◌∷◌, ◌++◌, Some, None, refl, ap, ap₂, sym, ◌∙◌, subst, append_assoc, append-nil, length, take, drop, take-append-drop, take-append_seam, zero, suc, slice_index_or, arith, take-length, length-append, length-map, map-append, resources, Request, Reply, IsOfKind, kind_of, Call, MayAnswer, SpellsAnswer, OpensNext, open_requests, SessionState, OpenRequest, Continues, after_answer, with_answer, continues_none, continues_then, continues_answer, HasMore, sitting, Entry, Moment, Noted, Sitting, HaveReceipts, none_made, Serves, IsSealed, requests_of, replies_of, AreOfKind, none_asked, asked, CallsMade, IsAnsweredBy, AnsweredAll, CallsAll, Called, IsBatchMade}
 use Rattle.cap_shared.specs.declared.history.NotedAnswer.TheVariants as answer
+use Rattle.cap_workers.specs.declared.batches.Called.TheVariants as called
 use Rattle.cap_workers.proofs.Receipts.{has_none, receipts_then}
 
 -- ---- calls
@@ -180,6 +181,30 @@ answered_but_last opens replies r calls x =
     map-take (suc n) [] = refl
     map-take (suc n) (c ∷ cs) = ap (λ (l : List (Reply resources)). c.reply ∷ l) (map-take n cs)
 
+-- what became of the calls says which replies answer the first open requests
+pub answered_so : (limit : ℕ) (old new : SessionState) (replies : List (Reply resources)) (s t : Sitting) (outcome : Called) → CallsAll limit old new replies s t outcome → (calls : List (Call resources)) × IsAnsweredBy new.opens replies calls
+answered_so limit old new replies s t (called.Made r) x = (take (length replies) x.calls, answered_but_last new.opens replies r x.calls (answered_by x))
+answered_so limit old new replies s t (called.Sealed back) (entries, full, x) = (x.calls, answered_by x)
+
+-- where all but the last were answered, the last reply can answer
+pub last_is : {old mid : SessionState} {s t : Sitting} (replies : List (Reply resources)) (r : Reply resources) (now : SessionState) (x : CallsMade old mid [] (replies ++ r ∷ []) s t []) → AnsweredAll mid now (take (length replies) x.calls) → (y : CanGoOn mid now x.calls (length replies)) × (r ≡ y.at.call.reply)
+last_is {old} {mid} replies r now x done =
+    let n = length replies in
+    let below : n < length x.calls = below_calls (replies ++ r ∷ []) x.calls n x.replies_are (omega (arith, length-append replies (r ∷ []))) in
+    let y = can_go_on mid now (replies ++ r ∷ []) x.calls n (answered_by x) done below in
+    (y, sym (at_end replies r) ∙ ap (λ (l : List (Reply resources)). slice_index_or l n r) x.replies_are ∙ y.at.reply r)
+  where
+    at_end : (rs : List (Reply resources)) (r : Reply resources) → slice_index_or (rs ++ r ∷ []) (length rs) r ≡ r
+    at_end [] r = refl
+    at_end (q ∷ rs) r = at_end rs r
+
+-- and once it has, all were answered
+pub last_answered : {old mid : SessionState} {s t : Sitting} (replies : List (Reply resources)) (r : Reply resources) (now new : SessionState) (x : CallsMade old mid [] (replies ++ r ∷ []) s t []) → AnsweredAll mid now (take (length replies) x.calls) → new ≡ after_answer now r → SpellsAnswer now.opens r → AnsweredAll mid new x.calls
+last_answered {old} {mid} replies r now new x done is spells =
+    let y = last_is replies r now x done in
+    let n = length replies in
+    answered_whole mid new (replies ++ r ∷ []) x.calls (n + 1) (answered_more mid now new x.calls n r done y.0 y.1 is spells) x.replies_are (sym (length-append replies (r ∷ [])))
+
 -- what is open after both
 pub left_same : {old mid : SessionState} {left : List (Request resources)} {replies : List (Reply resources)} {s t : Sitting} {note : List Moment} (new : SessionState) (x : CallsMade old mid left replies s t note) → AnsweredAll mid new x.calls → open_requests new.opens ≡ left
 left_same {old} {mid} {left} new x done = after_same (requests_of x.calls) (open_requests new.opens) left (sym done.left ∙ x.requests)
@@ -196,7 +221,7 @@ serves_batch {old} {mid} session new x same done = record {
   seat = x.seat;
 }
 
-no_requests : (opens : List OpenRequest) → open_requests opens ≡ [] → opens ≡ []
+pub no_requests : (opens : List OpenRequest) → open_requests opens ≡ [] → opens ≡ []
 no_requests [] is = refl
 no_requests (o ∷ opens) is = absurd cc
 

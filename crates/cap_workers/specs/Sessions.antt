@@ -13,7 +13,7 @@ use Rattle.cap_session.specs.Session.{SessionState, open_requests, Continues}
 use Rattle.cap_session.specs.declared.session.SessionCause.TheVariants as causes
 use Rattle.cap_session.specs.declared.counted.Sent.{Sent}
 use Rattle.cap_session.specs.declared.counted.Sent.TheVariants as sents
-use Rattle.cap_shared.specs.Calls.{HasMore, IsSealedCall}
+use Rattle.cap_shared.specs.Calls.{HasMore}
 use Rattle.cap_shared.specs.declared.entry.Entry.{Entry}
 use Rattle.cap_shared.specs.declared.entry.Receipt.TheVariants as receipt
 use Rattle.cap_shared.specs.declared.history.NotedAnswer.TheVariants as answer

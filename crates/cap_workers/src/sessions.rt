@@ -145,7 +145,8 @@ fn serve_once<J: Naming, H: Wait, R: Read, W: Write>(
     ensures out { IsWrittenOut result.end result.session.unsent }
 {
     let mut session = session;
-    match answer_all(rt, shared, seat, &mut session, pending) {
+    let pause = answer_all(rt, shared, seat, &mut session, pending);
+    match pause {
         Pause::Need => go_on(session, reader, writer),
         Pause::Sealed(request) => finish(session, writer, EndCause::Sealed(request)),
         Pause::Ended(SessionCause::BadLength) => finish(session, writer, EndCause::Faulted),

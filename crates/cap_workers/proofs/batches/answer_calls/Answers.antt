@@ -7,8 +7,8 @@ loop-reply-init c = λ calls by. answered_none c.args.session.now
 
 pub answer-requires : goal.answer-requires
 answer-requires c =
-    let by = c.requires.1 in
-    let calls = c.requires.0 in
+    let by = c.requires.calls.1 in
+    let calls = c.requires.calls.0 in
     let below = below_calls c.args.replies.now calls c.loop-reply.reply-index by.replies_are c.loop-reply-test.true in
     let x = can_go_on c.args.session.now c.loop-reply.session c.args.replies.now calls c.loop-reply.reply-index by (c.loop-reply.invariant calls by) below in
     may_answer_next c.args.session.now c.loop-reply.session calls c.loop-reply.reply-index c.reply-item.result x (c.reply-item.is ∙ ap (λ (l : List (Reply resources)). slice_index_or l c.loop-reply.reply-index c.reply-item.result) by.replies_are ∙ x.at.reply c.reply-item.result)

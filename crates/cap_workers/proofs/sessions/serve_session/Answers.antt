@@ -1,4 +1,4 @@
-use Rattle.cap_workers.proofs.Prelude.{refl, sym, ap, subst, [], ◌++◌, None, Option, state_of, inner_of, IsRead, IsRound, IsWritten, open_requests, EndCause}
+use Rattle.cap_workers.proofs.Prelude.{refl, ap, subst, [], ◌++◌, None, Option, state_of, inner_of, IsRead, IsRound, IsWritten, open_requests, EndCause}
 use Rattle.cap_workers.proofs.Receipts.{serves_none, serves_then}
 use Rattle.cap_workers.proofs.Rounds.{served_then}
 use Rattle.cap_workers.proofs.Streams.{reads_none, writes_none, read_then, written_then, can_still_read, can_still_write, sum_saturates}
