@@ -1,6 +1,6 @@
 //! Tests of the engine, of what neither a script nor property lines show.
 //! They are of amounts, texts and their pieces, the words for any fault, queues, what waits at them, proposals that no worker makes,
-//! snapshots in an arena, frames, batches, sessions and steps of a world; of what threads share: the lanes of workers, a
+//! snapshots in an arena, frames, requests read ahead, sessions and steps of a world; of what threads share: the lanes of workers, a
 //! cluster with its journal, and workers and sessions over it; and of what comes of each where memory is refused.
 #![tactic(auto)]
 
