@@ -150,10 +150,9 @@ asks s t request kept over none (payloads, frames, o, step, given, reading, aske
     let unsent = step.unsent in
     let answered = step.answered in
     let calls = step.calls in
-    let still = e ∙ over in
-    (
+    let still = e ∙ over in (
       found s t (o ∷ []) [] payloads kept over none asked ahead given answered reading (λ _. refl) room
-      (answered_open (state_inside t) still (answers_refused (state_inside s) (state_inside t) payloads frames (answers_open (state_inside s) over kept.answers) step.answers answered calls sent unsent)) (λ bad. absurd cc),
+          (answered_open (state_inside t) still (answers_refused (state_inside s) (state_inside t) payloads frames (answers_open (state_inside s) over kept.answers) step.answers answered calls sent unsent)) (λ bad. absurd cc),
       (over, payloads, frames, o, step.answers, same, subst (λ (q : Request resources). IsRequest o.payload o.head q) same is, cc),
     )
 
@@ -165,10 +164,9 @@ starves s t kept over none was (payloads, frames, lost, step, given, asked, read
     let fed = step.fed in
     let unsent = step.unsent in
     let answered = step.answered in
-    let calls = step.calls in
-    (
+    let calls = step.calls in (
       found s t [] lost payloads kept over none asked ahead given answered reading (λ still. absurd cc) (omega arith)
-      (answered_starved (state_inside t) e (answers_refused (state_inside s) (state_inside t) payloads frames (answers_open (state_inside s) over kept.answers) step.answers answered calls sent unsent)) (λ bad. refl),
+          (answered_starved (state_inside t) e (answers_refused (state_inside s) (state_inside t) payloads frames (answers_open (state_inside s) over kept.answers) step.answers answered calls sent unsent)) (λ bad. refl),
       (payloads, frames, step.answers, cc),
     )
 
@@ -183,10 +181,9 @@ faults s t kept over none was (payloads, frames, w, step, given, said, asked, re
     let answered = step.answered in
     let calls = step.calls in
     let all : t.framer.given ≡ answered_in t.answered.items = given ∙ ap (λ (x : List (List ℕ)). x ++ payloads) (given_now s kept over none) ∙ sym answered in
-    let end : IsStream t.framer.fed (answered_in t.answered.items) (fault at.0) = subst (λ (x : List (List ℕ)). IsStream t.framer.fed x (fault at.0)) all at.1 in
-    (
+    let end : IsStream t.framer.fed (answered_in t.answered.items) (fault at.0) = subst (λ (x : List (List ℕ)). IsStream t.framer.fed x (fault at.0)) all at.1 in (
       found s t [] [] payloads kept over none asked ahead (given ∙ ap (λ (x : List (List ℕ)). s.framer.given ++ x) (sym (append-nil payloads))) answered reading (λ still. refl) (omega arith)
-      (answered_fault (state_inside s) (state_inside t) payloads frames at.0 (answers_open (state_inside s) over kept.answers) step.answers answered calls sent unsent e end) (λ bad. refl),
+          (answered_fault (state_inside s) (state_inside t) payloads frames at.0 (answers_open (state_inside s) over kept.answers) step.answers answered calls sent unsent e end) (λ bad. refl),
       (payloads, frames, step.answers, cc, (at.0, end)),
     )
 
@@ -200,11 +197,10 @@ rests s t kept over none was (all, asked, at) ahead e g =
     let answered = all.step.answered in
     let calls = all.step.calls in
     let still = e ∙ over in
-    let given : t.framer.given ≡ answered_in t.answered.items = all.given ∙ ap (λ (x : List (List ℕ)). x ++ all.payloads) (given_now s kept over none) ∙ sym answered in
-    (
+    let given : t.framer.given ≡ answered_in t.answered.items = all.given ∙ ap (λ (x : List (List ℕ)). x ++ all.payloads) (given_now s kept over none) ∙ sym answered in (
       found s t [] [] all.payloads kept over none asked ahead (all.given ∙ ap (λ (x : List (List ℕ)). s.framer.given ++ x) (sym (append-nil all.payloads))) answered
-      ([], rest at.0, subst (λ (x : List (List ℕ)). IsStream t.framer.fed x (rest at.0)) (sym (append-nil t.framer.given)) at.1) (λ _. refl) (omega arith)
-      (answered_open (state_inside t) still (answers_refused (state_inside s) (state_inside t) all.payloads all.frames (answers_open (state_inside s) over kept.answers) all.step.answers answered calls sent unsent)) (λ bad. refl),
+          ([], rest at.0, subst (λ (x : List (List ℕ)). IsStream t.framer.fed x (rest at.0)) (sym (append-nil t.framer.given)) at.1) (λ _. refl) (omega arith)
+          (answered_open (state_inside t) still (answers_refused (state_inside s) (state_inside t) all.payloads all.frames (answers_open (state_inside s) over kept.answers) all.step.answers answered calls sent unsent)) (λ bad. refl),
       (over, all.payloads, all.frames, all.step.answers, cc, (at.0, subst (λ (x : List (List ℕ)). IsStream t.framer.fed x (rest at.0)) given at.1)),
     )
 
@@ -273,8 +269,7 @@ reads s t kept over r reading room unsent a e g =
     let fed = r.fed in
     let now : state_inside t ≡ state_inside s = cc in
     let answered = answered_in s.answered.items in
-    let lost = kept.none_lost over in
-    (
+    let lost = kept.none_lost over in (
       record {
         later = kept.later ++ r.more;
         asked = split ∙ ap (λ (x : List OpenRequest). x ++ (kept.later ++ r.more)) (sym opens);

@@ -65,5 +65,7 @@ pub(crate) fn make_room(asked: &mut VecDeque<Asked>, unsent: &mut BytesMut) -> R
         × (FRAME_ROOM * (length asked.new.items + 1) ≤ unsent.new.spare)) }
 {
     asked.reserve(1).map_err(|_| NoMemory)?;
-    unsent.reserve((asked.len() + 1) * FRAME_ROOM).map_err(|_| NoMemory)
+    unsent
+        .reserve((asked.len() + 1) * FRAME_ROOM)
+        .map_err(|_| NoMemory)
 }

@@ -19,11 +19,10 @@ loop-alloc-preserved c =
     let same = same_payload c.loop-alloc.framer c.next.new.self c.in-Some.bytes.now p.items c.in-Some.ensures.comes c.next.ensures.reading gift in
     let (payload, request, read) = opened_is p c.read_request-read.result c.and-opened.result.items c.in-Ok.head c.in-Ok.request o
     (opens p c.in-Some.bytes.now c.read_request-read.result c.new.result.items c.and-opened.result.items same c.read_request-read.ensures.found c.read_request-read.ensures.bad c.new.ensures c.and-opened.ensures) c.in-Ok.is c.new-in-loop-alloc.ensures in
-    let made = has_room c.make_room.result c.if-is_err-3.ensures.value c.make_room.ensures.made in
-    (
+    let made = has_room c.make_room.result c.if-is_err-3.ensures.value c.make_room.ensures.made in (
       reads_more c.next.new.self o c.push_back_reserved.new.self.items c.push_back_reserved-in-loop-alloc.new.self.items was (gift ∙ ap (λ x. after_gift c.loop-alloc.framer x) (sym payload)) read
-      (c.push_back_reserved.ensures.items ∙ ap (λ (x : List OpenRequest). x ++ o ∷ []) c.make_room.ensures.asked)
-      (c.push_back_reserved-in-loop-alloc.ensures.items ∙ ap₂ (λ (x : List (Request resources)) (y : Request resources). x ++ y ∷ []) c.reserve.ensures.items (sym request)),
+          (c.push_back_reserved.ensures.items ∙ ap (λ (x : List OpenRequest). x ++ o ∷ []) c.make_room.ensures.asked)
+          (c.push_back_reserved-in-loop-alloc.ensures.items ∙ ap₂ (λ (x : List (Request resources)) (y : Request resources). x ++ y ∷ []) c.reserve.ensures.items (sym request)),
       c.next.ensures.reading,
       c.make_room.ensures.unsent ∙ unsent,
       omega (arith, ap (λ (x : List OpenRequest). length x) c.push_back_reserved.ensures.items, length-append c.make_room.new.asked.items (o ∷ []), made.1),

@@ -37,8 +37,7 @@ returns-in-Ok c =
     let (payload, request, read) = opened_is p c.read_request-read.result c.and-opened.result.items c.in-Ok.head c.in-Ok.request o (opens p c.as_slice.result.now c.read_request-read.result c.new.result.items c.and-opened.result.items c.as_slice.ensures c.read_request-read.ensures.found c.read_request-read.ensures.bad c.new.ensures c.and-opened.ensures) c.in-Ok.is c.new-in-Ok.ensures in
     let (step, given) = bad_given c.next.new.self p.items all gift in
     let asked = c.make_room.ensures.asked ∙ none in
-    let room = has_room c.make_room.result c.if-is_err.ensures.value c.make_room.ensures.made in
-    (
+    let room = has_room c.make_room.result c.if-is_err.ensures.value c.make_room.ensures.made in (
       all.payloads,
       all.frames,
       o,

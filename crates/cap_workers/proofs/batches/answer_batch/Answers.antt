@@ -35,8 +35,7 @@ returns-in-Made-clause-same g c =
     let r = c.in-Made.reply in
     let opens = c.call_all-called.new.session.opens in
     let part = subst (λ (rs : List (Reply resources)). IsAnsweredBy opens rs (take (length replies) x.calls)) (sym c.as_slice.ensures.value) (answered_but_last opens replies r x.calls (answered_by x)) in
-    let done = last_answered replies r c.answer_calls.new.session c.answer.new.self x (c.answer_calls.ensures (take (length replies) x.calls) part) c.answer.ensures.answered c.answer.ensures.spells in
-    (
+    let done = last_answered replies r c.answer_calls.new.session c.answer.new.self x (c.answer_calls.ensures (take (length replies) x.calls) part) c.answer.ensures.answered c.answer.ensures.spells in (
       done.fed_same ∙ ap (λ (s : SessionState). s.fed) x.same ∙ ap (λ (s : SessionState). s.fed) c.read_ahead.ensures,
       done.sent_same ∙ ap (λ (s : SessionState). s.sent) x.same ∙ ap (λ (s : SessionState). s.sent) c.read_ahead.ensures,
     )

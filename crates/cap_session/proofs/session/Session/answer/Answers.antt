@@ -24,8 +24,8 @@ invariant_of-self c =
     let reply = c.args.reply.now in
     let opened = c.parts-opened.result.1 in
     (answers_it c.self.inside (after c) o reply opened c.and.result c.self.invariant (may_answer c.self.inside c.args.self.now c.args.reply.now c.self.view_is c.requires) c.in-Some.ensures.items (ap payloads_in has.one ∙ ap (λ (x : List ℕ). x ∷ []) (sym has.payload_is)) (ap (λ (l : PayloadLog). calls_in l ((reply, tt) ∷ [])) has.one) (spelled c) refl refl refl
-        (c.and.ensures ∙ ap (λ x. x ++ (reply, tt) ∷ []) c.new.ensures) c.and-self-inside.ensures refl
-        (c.put_reply.ensures.appends ∙ ap (λ (x : List ℕ). c.self.inside.unsent.items ++ frame_of x) (is_answer o c.parts-opened.result.0.of_request c.parts-opened.result.0.kind reply has.head_is has.kind)) c.put_reply.ensures.spare).0
+    (c.and.ensures ∙ ap (λ x. x ++ (reply, tt) ∷ []) c.new.ensures) c.and-self-inside.ensures refl
+    (c.put_reply.ensures.appends ∙ ap (λ (x : List ℕ). c.self.inside.unsent.items ++ frame_of x) (is_answer o c.parts-opened.result.0.of_request c.parts-opened.result.0.kind reply has.head_is has.kind)) c.put_reply.ensures.spare).0
 
 pub returns-clause-spells : goal.returns-clause-spells
 returns-clause-spells c =
