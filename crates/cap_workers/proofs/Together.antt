@@ -186,6 +186,11 @@ pub answered_so : (limit : ℕ) (old new : SessionState) (replies : List (Reply 
 answered_so limit old new replies s t (called.Made r) x = (take (length replies) x.calls, answered_but_last new.opens replies r x.calls (answered_by x))
 answered_so limit old new replies s t (called.Sealed back) (entries, full, x) = (x.calls, answered_by x)
 
+-- all but the last were answered by the replies that were kept
+pub but_last : {old mid : SessionState} {s t : Sitting} (replies kept : List (Reply resources)) (r : Reply resources) (now : SessionState) (x : CallsMade old mid [] (replies ++ r ∷ []) s t []) → kept ≡ replies → ((calls : List (Call resources)) → IsAnsweredBy mid.opens kept calls → AnsweredAll mid now calls) → AnsweredAll mid now (take (length replies) x.calls)
+but_last {old} {mid} replies kept r now x same answered =
+    answered (take (length replies) x.calls) (subst (λ (rs : List (Reply resources)). IsAnsweredBy mid.opens rs (take (length replies) x.calls)) (sym same) (answered_but_last mid.opens replies r x.calls (answered_by x)))
+
 -- where all but the last were answered, the last reply can answer
 pub last_is : {old mid : SessionState} {s t : Sitting} (replies : List (Reply resources)) (r : Reply resources) (now : SessionState) (x : CallsMade old mid [] (replies ++ r ∷ []) s t []) → AnsweredAll mid now (take (length replies) x.calls) → (y : CanGoOn mid now x.calls (length replies)) × (r ≡ y.at.call.reply)
 last_is {old} {mid} replies r now x done =
