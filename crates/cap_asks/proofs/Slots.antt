@@ -1,6 +1,6 @@
 -- The entries of an index whose values are held in slots.
-use Rattle.cap_asks.proofs.Prelude.{◌≡◌, ◌≢◌, ℕ, zero, suc, ◌+◌, ◌≤◌, ◌<◌, Bool, true, false, cond, List, [], ◌∷◌, ◌++◌, length, map, take, drop, refl, sym, ◌∙◌, ap, subst, arith, nat_cmp, get_or, Box, Option, Some, None, is_some, nat_eq, option_map, insert, remove, ◌==◌, option_map_or, lookup, set_value, remove_entry, insert_entry, is_at, nat_cmp_is, Greater, nat_tests, map_push, get_or-set_same, get_or-set_other, take-map, drop-map, map-append, lookup-map_values, Slab, ContainsKey, Updates, with_value, get, HeldApp, AreNumbered, entries_at, held_at, nobody, slot_in}
-use Rattle.cap_asks.proofs.Entries.{is_number, by_number, above_absent, next_absent, low_below, numbered_front, still_without, found_number, other_pushed}
+use Rattle.cap_asks.proofs.Prelude.{◌≡◌, ◌≢◌, ℕ, zero, suc, ◌+◌, ◌≤◌, ◌<◌, Bool, true, false, cond, List, [], ◌∷◌, ◌++◌, length, refl, sym, ◌∙◌, ap, subst, arith, nat_cmp, get_or, Box, Option, Some, None, is_some, nat_eq, option_map, option_map_or, lookup, set_value, remove_entry, insert_entry, is_at, nat_cmp_is, Greater, nat_tests, map_push, get_or-set_same, get_or-set_other, lookup-map_values, Slab, ContainsKey, Updates, with_value, get, HeldApp, AreNumbered, entries_at, held_at, nobody}
+use Rattle.cap_asks.proofs.Entries.{is_number, by_number, above_absent, next_absent, low_below, numbered_front, still_without, found_number}
 
 -- one slot holds another than before
 pub record IsWritten (held held' : ℕ → HeldApp) (slot : ℕ) (now : HeldApp) : Type 0 where
@@ -28,11 +28,8 @@ updated {A} u = record {
 pub looked_at : (held : ℕ → HeldApp) (n : ℕ) (index : List (ℕ × ℕ)) {o : Option ℕ} → o ≡ lookup (is_at (nat_cmp n)) index → option_map held o ≡ lookup (is_at (nat_cmp n)) (entries_at held index)
 looked_at held n index e = ap (option_map held) e ∙ sym (lookup-map_values held (is_at (nat_cmp n)) index)
 
-pub slot_is : (n : ℕ) (index : List (ℕ × ℕ)) {slot : ℕ} → Some slot ≡ lookup (is_at (nat_cmp n)) index → slot ≡ slot_in index n
-slot_is n index e = sym (ap (λ o. option_map_or (λ (s : ℕ). s) o 0) (by_number n index e))
-
 -- where it leads an application of the number is held
-is_held : (held : ℕ → HeldApp) (n next : ℕ) (index : List (ℕ × ℕ)) {slot : ℕ} → AreNumbered 1 (entries_at held index) next → Some slot ≡ lookup (is_at (nat_cmp n)) index → (1 ≤ n) × ((held slot).app.number ≡ n)
+pub is_held : (held : ℕ → HeldApp) (n next : ℕ) (index : List (ℕ × ℕ)) {slot : ℕ} → AreNumbered 1 (entries_at held index) next → Some slot ≡ lookup (is_at (nat_cmp n)) index → (1 ≤ n) × ((held slot).app.number ≡ n)
 is_held held n next index {slot} h e = found_number 1 n next (entries_at held index) (held slot) h (by_number n (entries_at held index) (looked_at held n index e))
 
 -- a change in the slot of a number that no entry has
@@ -117,9 +114,6 @@ held_back held held' p next index left w h is =
     let front = numbered_front 1 next (entries_at held left) (p.0, held p.1) (subst (λ xs. AreNumbered 1 xs next) es h) in
     es ∙ ap (λ xs. xs ++ (p.0, held p.1) ∷ []) (sym (kept_others held held' p.1 p.0 1 p.0 left w.others front.1 front.0 (next_absent 1 p.0 (entries_at held left) front.0)))
 
-pub slot_pushed : (n slot m : ℕ) (index : List (ℕ × ℕ)) → m == n ≡ false → slot_in (index ++ (n, slot) ∷ []) m ≡ slot_in index m
-slot_pushed n slot m index other = ap (λ o. option_map_or (λ (s : ℕ). s) o 0) (other_pushed m n index slot other)
-
 -- an application in the slot that its number leads to
 pub slot_taken : {A : Type 0} (apps : Slab (Box HeldApp A)) (index : List (ℕ × ℕ)) (n next : ℕ) {slot : ℕ} → AreNumbered 1 (entries_at (held_at apps) index) next → Some slot ≡ lookup (is_at (nat_cmp n)) index → ContainsKey apps slot
 slot_taken {A} apps index n next {slot} h e = let i = is_held (held_at apps) n next index h e in by (get apps slot) i.1 i.0
@@ -133,10 +127,3 @@ pub opened : {A : Type 0} (apps : Slab (Box HeldApp A)) (index : List (ℕ × �
 opened {A} apps index n slot b old e there is =
     by_number n (entries_at (held_at apps) index) (looked_at (held_at apps) n index e)
     ∙ ap (λ o. Some (option_map_or (λ (c : Box HeldApp A). c.value) o nobody)) there ∙ ap (λ (x : HeldApp). Some x) (sym is)
-
--- slots beside numbers
-pub map_insert : (f : ℕ → ℕ) (ns : List ℕ) (i n : ℕ) → map f (insert ns i n) ≡ insert (map f ns) i (f n)
-map_insert f ns i n = rw (take-map f i ns, drop-map f i ns) (map-append f (take i ns) (n ∷ drop i ns))
-
-pub map_remove : (f : ℕ → ℕ) (ns : List ℕ) (i : ℕ) → map f (remove ns i) ≡ remove (map f ns) i
-map_remove f ns i = rw (take-map f i ns, drop-map f (suc i) ns) (map-append f (take i ns) (drop (suc i) ns))

@@ -29,12 +29,13 @@ is_waiting app = app.registered && not (length app.asks == 0)
 abbrev pub waiting_of : List App → List App
 waiting_of active = filter is_waiting active
 
--- numbers in order, with one more, or without it
-abbrev pub put_number : ℕ → Bool → List ℕ → List ℕ
-put_number n stands [] = if stands then n ∷ [] else []
-put_number n stands (m ∷ ms) =
-    let others = if m == n then ms else m ∷ ms in
-    if nat_lt m n then m ∷ put_number n stands ms else if stands then n ∷ others else others
+-- entries in order of number, with one more, and without that of a number
+abbrev pub with_entry : ℕ → ℕ → List (ℕ × ℕ) → List (ℕ × ℕ)
+with_entry n slot [] = (n, slot) ∷ []
+with_entry n slot (e ∷ es) = if nat_lt e.0 n then e ∷ with_entry n slot es else (n, slot) ∷ e ∷ es
+
+abbrev pub without_entry : ℕ → List (ℕ × ℕ) → List (ℕ × ℕ)
+without_entry n es = filter (λ e. not (e.0 == n)) es
 
 -- the account of one whose leaf is there in the tree: nothing is live, and it has no room yet
 abbrev pub new_account : List ℕ → Account
@@ -132,17 +133,9 @@ held_at apps slot = option_map_or (λ b. b.value) (get apps slot) nobody
 abbrev pub entries_at : (ℕ → HeldApp) → List (ℕ × ℕ) → List (ℕ × HeldApp)
 entries_at held index = map (λ e. (e.0, held e.1)) index
 
--- the slot that a number leads to
-abbrev pub slot_in : List (ℕ × ℕ) → ℕ → ℕ
-slot_in index n = option_map_or (λ s. s) (lookup (nat_eq n) index) 0
-
--- numbers have the slots that they lead to beside them, in memory that has room for all
-pub record AreBeside (index : List (ℕ × ℕ)) (numbers slots : List ℕ) (room : ℕ) : Type 0 where
-  pub beside : slots ≡ map (slot_in index) numbers
+-- an index of applications in slots under their numbers, which rise from 1 and are below the next; its entries of those that wait, in
+-- memory that has room for all
+pub record AreIndexed (held : ℕ → HeldApp) (index : List (ℕ × ℕ)) (next : ℕ) (waiters : List (ℕ × ℕ)) (room : ℕ) : Type 0 where
+  pub numbered : AreNumbered 1 (entries_at held index) next
+  pub waiting : waiters ≡ filter (λ e. is_waiting (held e.1).app) index
   pub few : length index ≤ room
-
--- besides, the numbers of those that wait, in memory that has room for all
-pub record AreIndexed (es : List (ℕ × HeldApp)) (next : ℕ) (numbers : List ℕ) (room : ℕ) : Type 0 where
-  pub numbered : AreNumbered 1 es next
-  pub waiting : numbers ≡ map (λ app. app.number) (waiting_of (map (λ e. e.1.app) es))
-  pub few : length es ≤ room

@@ -1,2 +1,3 @@
 pub mod Apps
 pub mod Accounts
+pub mod Changes

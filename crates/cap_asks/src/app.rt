@@ -9,9 +9,11 @@ ghost use Rattle.cap_model.specs.ResponseIds.{is_repeated, is_bad_id};
 ghost use Rattle.cap_model.specs.Submit.{new_app};
 ghost use Rattle.cap_asks.specs.Accounts.{AreKept, TakesRoom, HasRoom, repeated_numbers, with_numbers};
 ghost use Rattle.cap_model.specs.Reporting.{reported_of, news_most};
+ghost use Rattle.cap_asks.specs.Changes.{MayChange, Takes, changed_by, used_by};
 ghost use Rattle.cap_asks.specs.Apps.{is_waiting, new_account};
 
 use crate::asks::Asks;
+use crate::change::Change;
 use crate::news::News;
 use cap_model::{
     AllocateView, Ask, End, Grant, Key, NEWS_MAX, NoMemory, PathText, ReplyRoom, Reported,
@@ -266,14 +268,6 @@ impl<const K: usize> App<K> {
         self.asks.has_too_many_keys(asks)
     }
 
-    /// Its master has reported.
-    pub(crate) fn register(&mut self)
-        ensures app { self.new.app ≡ record self.old.app { registered = true } }
-        ensures account { TakesRoom 0 0 0 self.old.account self.new.account }
-    {
-        self.registered = true;
-    }
-
     /// Makes room for so many more asks, grants and ends. `NoMemory` takes no room away and changes nothing else; where there is
     /// room for all it does not come.
     pub(crate) fn reserve(
@@ -292,46 +286,26 @@ impl<const K: usize> App<K> {
         self.ends.reserve(ends)
     }
 
-    /// Puts an ask in place of the one of its key, or in order of key; a count of 0 takes the key away.
-    pub(crate) fn put_ask(&mut self, ask: &Ask<K>)
-        requires { 1 ≤ self.old.account.asks }
-        ensures app { self.new.app ≡
-            record self.old.app { asks = put_ask ask.now self.old.app.asks } }
-        ensures account { TakesRoom 1 0 0 self.old.account self.new.account }
+    /// Changes it as a call does.
+    pub(crate) fn change(&mut self, change: Change<'_, K>)
+        requires { MayChange change self.old.account }
+        ensures app { self.new.app ≡ changed_by change.entry self.old.app }
+        ensures number { self.new.app.number ≡ self.old.app.number }
+        ensures account { Takes (used_by change.entry) self.old.account self.new.account }
     {
-        self.asks.put(ask);
-    }
-
-    /// One container less is wanted for this key; an ask that comes to 0 is taken out.
-    pub(crate) fn take_one(&mut self, key: &Key)
-        ensures app { self.new.app ≡
-            record self.old.app { asks = take_one key.now self.old.app.asks } }
-        ensures account { TakesRoom 0 0 0 self.old.account self.new.account }
-    {
-        self.asks.take_one(key);
-    }
-
-    /// One more container is live, whose grant waits, last.
-    pub(crate) fn add_grant(&mut self, grant: &Grant<K>)
-        requires room { HasRoom 0 1 (self.old.account.live + 1) self.old.account }
-        requires few { self.old.account.live < live_max }
-        ensures app { self.new.app ≡
-            record self.old.app { grants = self.old.app.grants ++ grant.now ∷ [] } }
-        ensures account { TakesRoom 0 1 0 self.old.account self.new.account }
-    {
-        self.grants.add(*grant);
-        self.live += 1;
-    }
-
-    /// One container less is live, whose end waits, last.
-    pub(crate) fn add_end(&mut self, end: &End)
-        requires { 1 ≤ self.old.account.live }
-        ensures app { self.new.app ≡
-            record self.old.app { ends = self.old.app.ends ++ end.now ∷ [] } }
-        ensures account { TakesRoom 0 0 1 self.old.account self.new.account }
-    {
-        self.ends.add(*end);
-        self.live -= 1;
+        match change {
+            Change::Register => self.registered = true,
+            Change::PutAsk(ask) => self.asks.put(ask),
+            Change::TakeOne(key) => self.asks.take_one(key),
+            Change::AddGrant(grant) => {
+                self.grants.add(*grant);
+                self.live += 1;
+            }
+            Change::AddEnd(end) => {
+                self.ends.add(*end);
+                self.live -= 1;
+            }
+        }
     }
 
     /// Reports the oldest grants and ends that wait, at most 64 of each: the response id moves on, and the reply is kept. The result is

@@ -1,5 +1,5 @@
 //! The active applications by number, and the changes that calls make of one (`Apps`).
-ghost use Rattle.std.specs.Prelude.{◌≡◌, ℕ, List, ◌+◌, ◌<◌, ◌≤◌, ◌++◌, ◌∷◌, [], true, false, Some, length, map, option_map, vec_capacity, IfOk, OnOk, OnErr, IsOk, IsSome};
+ghost use Rattle.std.specs.Prelude.{◌≡◌, ℕ, List, ◌+◌, ◌<◌, ◌≤◌, ◌++◌, ◌∷◌, [], true, false, Some, length, map, option_map, vec_capacity, IfOk, OnOk, OnErr, IsOk, IsSome, if◌then◌else◌};
 ghost use Rattle.cap_base.specs.Limits.{live_max, number_end};
 ghost use Rattle.std.specs.List.{All, slice_get};
 ghost use Rattle.std.specs.Option.{option_map_or};
@@ -10,9 +10,11 @@ ghost use Rattle.cap_model.specs.Submit.{add_app};
 ghost use Rattle.cap_model.specs.FinishMaster.{remove_app};
 ghost use Rattle.cap_model.specs.Flat.{AppTable, change_app, no_apps, app_in};
 ghost use Rattle.cap_asks.specs.Accounts.{Account};
-ghost use Rattle.cap_asks.specs.Apps.{is_waiting, waiting_of, put_number, IsLeft, account_of, ask_room, live_of, UsesRoom, HasRooms, kept_of, KeepsNumbers, Enters, with_ask_put, with_one_less, with_waiting_grant, with_waiting_end, after_next_reply};
+ghost use Rattle.cap_asks.specs.Changes.{CanChange, Uses, changed_by, used_by};
+ghost use Rattle.cap_asks.specs.Apps.{is_waiting, waiting_of, with_entry, without_entry, IsLeft, account_of, ask_room, live_of, UsesRoom, HasRooms, kept_of, KeepsNumbers, Enters, with_ask_put, with_one_less, with_waiting_grant, with_waiting_end, after_next_reply};
 
 use crate::app::{App, Position};
+use crate::change::Change;
 use crate::waiting::Waiting;
 use cap_model::{AllocateView, Ask, End, Grant, Key, NoMemory, PathText, Reported, ShortText};
 use slab::Slab;
@@ -21,7 +23,7 @@ use std::collections::BTreeMap;
 use std::marker::Model;
 
 /// The active applications, each in one slot from its submission to its end, and an index from their numbers to their slots. Beside it
-/// the numbers of those that wait for containers, in order, with their slots, and with room for all, and the number of the next.
+/// the entries of those that wait for containers, in order of number, with room for all, and the number of the next.
 /// Contracts see the flat cluster's table, and beside it the account of each application, which says how many more asks, grants and
 /// ends it may take with no memory.
 #[derive(Drop)]
@@ -29,14 +31,13 @@ pub struct Apps<const K: usize> {
     alloc: Global,
     index: BTreeMap<u64, usize>,
     apps: Slab<Box<App<K>>>,
-    waiting: Vec<u64>,
-    slots: Vec<usize>,
+    waiting: Vec<(u64, usize)>,
     next: u64,
 }
 
 impl<const K: usize> Model for Apps<K> {
     ghost use Rattle.std.specs.Prelude.{map, vec_capacity};
-    ghost use Rattle.cap_asks.specs.Apps.{HeldApps, AreIndexed, AreBeside, entries_at, held_at};
+    ghost use Rattle.cap_asks.specs.Apps.{HeldApps, AreIndexed, entries_at, held_at};
 
     ghost Value = { HeldApps };
 
@@ -48,9 +49,8 @@ impl<const K: usize> Model for Apps<K> {
       accounts = map (λ e. (e.0, e.1.account)) (entries_at (held_at t.apps) t.index.entries);
     } };
 
-    ghost invariant = { λ t. AreIndexed (entries_at (held_at t.apps) t.index.entries) t.next
-        t.waiting.items (vec_capacity t.waiting)
-        × AreBeside t.index.entries t.waiting.items t.slots.items (vec_capacity t.slots) };
+    ghost invariant = { λ t. AreIndexed (held_at t.apps) t.index.entries t.next
+        t.waiting.items (vec_capacity t.waiting) };
 }
 
 impl<const K: usize> Apps<K> {
@@ -64,7 +64,6 @@ impl<const K: usize> Apps<K> {
             index: BTreeMap::new(alloc),
             apps: Slab::new(alloc),
             waiting: Vec::new(alloc),
-            slots: Vec::new(alloc),
             next: 1,
         }
     }
@@ -86,9 +85,6 @@ impl<const K: usize> Apps<K> {
     {
         let more = self.index.len() - self.waiting.len() + 1;
         let Ok(()) = self.waiting.reserve(more) else {
-            return Err(NoMemory);
-        };
-        let Ok(()) = self.slots.reserve(more) else {
             return Err(NoMemory);
         };
         let Ok(()) = self.apps.reserve(1) else {
@@ -120,7 +116,7 @@ impl<const K: usize> Apps<K> {
         };
         self.apps.try_remove(slot);
         self.next = number;
-        set_waiting(&mut self.waiting, &mut self.slots, number, slot, false);
+        set_waiting(&mut self.waiting, number, slot, false);
     }
 
     /// The numbers rise from 1, and are below the next. This does nothing: it is there for what its clause says.
@@ -166,7 +162,7 @@ impl<const K: usize> Apps<K> {
         ensures account { account_of result.now.app.number self.now.accounts
             ≡ Some result.now.account }
     {
-        &self.apps[self.slots[index]]
+        &self.apps[self.waiting[index].1]
     }
 
     /// The number of the next.
@@ -186,19 +182,33 @@ impl<const K: usize> Apps<K> {
         Some(&self.apps[slot])
     }
 
+    /// One application changes, and is among those that wait from then on exactly where it waits. Where none of this number is active,
+    /// nothing changes. It takes no memory.
+    fn change(&mut self, n: u64, change: Change<'_, K>)
+        requires { CanChange change n self.old.accounts }
+        ensures table { self.new.table ≡ change_app n (changed_by change.entry) self.old.table }
+        ensures accounts { Uses (used_by change.entry) n self.old.accounts self.new.accounts }
+    {
+        let Some(&slot) = self.index.get(&n) else {
+            return;
+        };
+        let app = &mut *self.apps[slot];
+        let waited = app.is_waiting();
+        app.change(change);
+        let waits = app.is_waiting();
+        if waits == waited {
+            return;
+        }
+        set_waiting(&mut self.waiting, n, slot, waits);
+    }
+
     /// The master of an application has reported. Where none of this number is active, nothing changes.
     pub fn register(&mut self, n: u64)
         ensures table { self.new.table ≡
             change_app n (λ app. record app { registered = true }) self.old.table }
         ensures accounts { UsesRoom n 0 0 0 self.old.accounts self.new.accounts }
     {
-        let Some(&slot) = self.index.get(&n) else {
-            return;
-        };
-        let app = &mut *self.apps[slot];
-        app.register();
-        let waits = app.is_waiting();
-        set_waiting(&mut self.waiting, &mut self.slots, n, slot, waits);
+        self.change(n, Change::Register);
     }
 
     /// Makes room for so many more asks, grants and ends of an application, so that it takes them with no memory. `NoMemory`
@@ -236,13 +246,7 @@ impl<const K: usize> Apps<K> {
         ensures table { self.new.table ≡ change_app n (with_ask_put ask.now) self.old.table }
         ensures accounts { UsesRoom n 1 0 0 self.old.accounts self.new.accounts }
     {
-        let Some(&slot) = self.index.get(&n) else {
-            return;
-        };
-        let app = &mut *self.apps[slot];
-        app.put_ask(ask);
-        let waits = app.is_waiting();
-        set_waiting(&mut self.waiting, &mut self.slots, n, slot, waits);
+        self.change(n, Change::PutAsk(ask));
     }
 
     /// One container less is wanted for this key of an application; an ask that comes to 0 is taken out. Where there is no such application
@@ -251,13 +255,7 @@ impl<const K: usize> Apps<K> {
         ensures table { self.new.table ≡ change_app n (with_one_less key.now) self.old.table }
         ensures accounts { UsesRoom n 0 0 0 self.old.accounts self.new.accounts }
     {
-        let Some(&slot) = self.index.get(&n) else {
-            return;
-        };
-        let app = &mut *self.apps[slot];
-        app.take_one(key);
-        let waits = app.is_waiting();
-        set_waiting(&mut self.waiting, &mut self.slots, n, slot, waits);
+        self.change(n, Change::TakeOne(key));
     }
 
     /// One more container of an application is live, whose grant waits to be reported to its master, last. It needs room that `room`
@@ -269,11 +267,7 @@ impl<const K: usize> Apps<K> {
             change_app n (with_waiting_grant grant.now) self.old.table }
         ensures accounts { UsesRoom n 0 1 0 self.old.accounts self.new.accounts }
     {
-        let Some(&slot) = self.index.get(&n) else {
-            return;
-        };
-        let app = &mut *self.apps[slot];
-        app.add_grant(grant);
+        self.change(n, Change::AddGrant(grant));
     }
 
     /// One container of an application is live no more, and its end waits to be reported to its master, last.
@@ -282,11 +276,7 @@ impl<const K: usize> Apps<K> {
         ensures table { self.new.table ≡ change_app n (with_waiting_end end.now) self.old.table }
         ensures accounts { UsesRoom n 0 0 1 self.old.accounts self.new.accounts }
     {
-        let Some(&slot) = self.index.get(&n) else {
-            return;
-        };
-        let app = &mut *self.apps[slot];
-        app.add_end(end);
+        self.change(n, Change::AddEnd(end));
     }
 
     /// Reports to the master of an application the oldest grants and ends that wait, at most 64 of each: the response id moves on, and
@@ -336,36 +326,28 @@ impl<const K: usize> Apps<K> {
             return;
         };
         self.apps.try_remove(slot);
-        set_waiting(&mut self.waiting, &mut self.slots, n, slot, false);
+        set_waiting(&mut self.waiting, n, slot, false);
     }
 }
 
-/// The numbers of those that wait and their slots, with this one, or without it. It costs one binary search.
-fn set_waiting(waiting: &mut Vec<u64>, slots: &mut Vec<usize>, n: u64, slot: usize, waits: bool)
-    requires rising { (end : ℕ) × IsRising 1 waiting.old.items end }
-    requires beside { length slots.old.items ≡ length waiting.old.items }
-    requires room { length (put_number n waits waiting.old.items) ≤ vec_capacity waiting.old }
-    requires slot_room { length (put_number n waits waiting.old.items) ≤ vec_capacity slots.old }
-    ensures items { waiting.new.items ≡ put_number n waits waiting.old.items }
-    ensures beside { (slot_of : ℕ → ℕ) → slots.old.items ≡ map slot_of waiting.old.items
-        → slot ≡ slot_of n → slots.new.items ≡ map slot_of waiting.new.items }
+/// The entries of those that wait, in order of number, with that of this number, or without it. It costs one binary search.
+fn set_waiting(waiting: &mut Vec<(u64, usize)>, n: u64, slot: usize, waits: bool)
+    requires rising { (end : ℕ) × IsRising 1 (map (λ e. e.0) waiting.old.items) end }
+    requires room { waits ≡ true → length waiting.old.items < vec_capacity waiting.old }
+    ensures items { waiting.new.items ≡ (if waits then with_entry n slot waiting.old.items
+        else without_entry n waiting.old.items) }
     ensures room { vec_capacity waiting.old ≤ vec_capacity waiting.new }
-    ensures slot_room { vec_capacity slots.old ≤ vec_capacity slots.new }
 {
-    match (waiting.binary_search(&n), waits) {
-        (Ok(index), false) => {
-            waiting.remove(index);
-            slots.remove(index);
-        }
-        (Err(index), true) => {
-            let Ok(()) = waiting.insert(index, n) else {
-                unreachable!()
-            };
-            let Ok(()) = slots.insert(index, slot) else {
-                unreachable!()
-            };
-        }
-        (Ok(_), true) => {}
-        (Err(_), false) => {}
+    let found = waiting.binary_search_by_key(&n, |entry| entry.0);
+    if waits {
+        let index = match found {
+            Ok(index) => index,
+            Err(index) => index,
+        };
+        let Ok(()) = waiting.insert(index, (n, slot)) else {
+            unreachable!()
+        };
+    } else if let Ok(index) = found {
+        waiting.remove(index);
     }
 }

@@ -4,6 +4,7 @@
 mod app;
 mod apps;
 mod asks;
+mod change;
 mod news;
 mod waiting;
 

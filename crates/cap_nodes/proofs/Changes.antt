@@ -1,6 +1,5 @@
 -- The table as nodes and containers come and go.
-use Rattle.cap_nodes.proofs.Prelude.{◌≡◌, ℕ, ◌+◌, ◌≤◌, Bool, true, false, cond, List, [], ◌∷◌, ◌++◌, length, map, not, sym, ap, ◌∙◌, arith, subst, refl, Option, Some, None, filter, find, count_by, ◌==◌, IsSome, IfSome, ◌||◌, option_and_then, option_map, All, sum, sum_by, list_any, AllByRecursion, All-from_recursion, amounts_fit, eqb-true, nat_tests, length-filter, sum-map, map_push, slice_get-map, amount, by_amount, plus, less, Fits, IsWithin, amount_max, zeros, fits, sum_where, found, filter_mapped, find_mapped_at, map_twice, IsRising, HeartbeatReply, ClusterNode, Container, Reservation, sum_of_totals, after_beat, IsSound, left_of, Load, IsTied, AreTied, load_at, change_load, held_more, held_less, beaten_load, HasOne, HaveReservations, reservation_of}
-use Rattle.std.specs.Prelude.{slice_get}
+use Rattle.cap_nodes.proofs.Prelude.{◌≡◌, ℕ, ◌+◌, ◌≤◌, Bool, true, false, cond, List, [], ◌∷◌, ◌++◌, length, map, not, sym, ap, ◌∙◌, arith, subst, refl, Option, Some, None, filter, find, count_by, ◌==◌, IsSome, ◌||◌, option_and_then, option_map, All, sum, sum_by, list_any, AllByRecursion, All-from_recursion, amounts_fit, eqb-true, nat_tests, length-filter, sum-map, map_push, amount, by_amount, plus, less, Fits, IsWithin, amount_max, zeros, fits, sum_where, found, filter_mapped, find_mapped_at, map_twice, IsRising, HeartbeatReply, ClusterNode, Container, Reservation, sum_of_totals, after_beat, IsSound, left_of, Load, IsTied, AreTied, load_at, change_load, held_more, held_less, beaten_load, HasOne, HaveReservations, reservation_of}
 use Rattle.cap_nodes.proofs.Numbered.{found-change, none_at_end, kept-change}
 use Rattle.cap_nodes.proofs.Presents.{not_none}
 use Rattle.cap_nodes.proofs.Sums.{where-none, filter-none, none-filter, zeros-fit, where-less-own, where-had, sum-without}

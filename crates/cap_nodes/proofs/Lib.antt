@@ -7,6 +7,7 @@ pub mod Presents
 pub mod Sums
 pub mod Ties
 pub mod Changes
+pub mod Changing
 pub mod Walked
 pub mod Reserved
 pub mod Reserving

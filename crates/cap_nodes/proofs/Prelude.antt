@@ -36,7 +36,7 @@ pub use Rattle.cap_model.specs.Heartbeat.{after_beat}
 pub use Rattle.cap_model.specs.RegisterNode.{sum_of_totals}
 pub use Rattle.cap_model.specs.declared.ask.Key.{Key}
 pub use Rattle.cap_model.specs.declared.replies.HeartbeatReply.{HeartbeatReply}
-pub use Rattle.cap_nodes.specs.Loads.{AreHosts, AreTied, CanHold, ContainerTable, HasCount, HasLess, HasMore, HasOne, HaveReservations, IsContainerTable, IsOwnerIndex, IsPresent, IsTied, Load, LoadTable, beaten_load, change_load, has_pair, held_less, held_more, is_kept_for, is_of, load_at, made_after, pair_cmp, reservation_of, reserved_load, some_count, tagged_items, unreserved_load}
+pub use Rattle.cap_nodes.specs.Loads.{AreHosts, AreTied, CanHold, ContainerTable, HasCount, HasLess, HasMore, HasOne, HaveReservations, IsNumbered, IsOwnerIndex, IsTied, Load, LoadTable, beaten_load, change_load, has_pair, held_less, held_more, is_kept_for, is_of, load_at, made_after, pair_cmp, reservation_of, reserved_load, some_count, tagged_items, unreserved_load}
 pub use Rattle.cap_nodes.specs.Tables.{IsLoadIn, IsSound, left_of}
 pub use Rattle.cap_vector.proofs.AmountLemmas.{amount-less, amount-plus, amount-zeros, length-less}
 pub use Rattle.cap_vector.specs.Vector.{Fits, IsWithin, amount, amount_max, by_amount, less, plus, zeros}

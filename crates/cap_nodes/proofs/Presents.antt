@@ -1,31 +1,24 @@
 -- The present nodes by number, as one more comes, one changes and one goes.
-use Rattle.cap_nodes.proofs.Prelude.{◌≡◌, ℕ, ◌+◌, ◌-◌, ◌≤◌, ◌<◌, Bool, true, false, cond, List, [], ◌∷◌, ◌++◌, length, length-append, map, not, refl, sym, ap, ◌∙◌, arith, subst, inl, inr, zero, suc, Option, Some, None, filter, ◌==◌, ◌||◌, nat_eq, bytes_eq, count_by, is_some, ◌↔◌, IfSome, IsSome, if◌then◌else◌, list_any, sum, length-map, sum-map, same_Some, bytes_eq-Decides, lookup, remove_entry, set_value, values_of, IsRising, nodes_max, is_text, one_where, count_cons, IsIn, rising_kept, rising_more, found_by_number, length-kept, Load, AreHosts, HasCount, IsPresent, tagged_items, load_at, change_load, some_count}
+use Rattle.cap_nodes.proofs.Prelude.{◌≡◌, ℕ, ◌+◌, ◌-◌, ◌≤◌, ◌<◌, Bool, true, false, cond, List, [], ◌∷◌, ◌++◌, length, map, not, refl, sym, ap, ◌∙◌, arith, subst, inl, inr, zero, suc, Option, Some, None, filter, ◌==◌, ◌||◌, nat_eq, bytes_eq, count_by, is_some, ◌↔◌, IfSome, IsSome, if◌then◌else◌, list_any, sum, sum-map, same_Some, bytes_eq-Decides, lookup, remove_entry, set_value, values_of, IsRising, nodes_max, is_text, one_where, count_cons, IsIn, found_by_number, Load, AreHosts, HasCount, IsNumbered, load_at, change_load, some_count}
 use Rattle.std.proofs.Common.{slice_get}
 use Rattle.cap_nodes.proofs.Sums.{count-push, sum-without}
-use Rattle.cap_nodes.proofs.Numbered.{remove-tagged, push-tagged, set-tagged, lookup-tagged, same_number, values-tagged, kept-change, none_at_end}
+use Rattle.cap_nodes.proofs.ByNumber as by_number
+use Rattle.cap_nodes.proofs.ByNumber.{found_by_hash}
+use Rattle.cap_nodes.proofs.Numbered.{same_number, kept-change}
+
+abbrev pub IsPresent : List (ℕ × Load) → ℕ → Type 0
+IsPresent entries next = IsNumbered (λ (p : Load). p.node.number) nodes_max entries next
 
 -- entries that are some loads by number, with the hosts of these
 pub record Are (entries : List (ℕ × Load)) (hosts : List (List ℕ × ℕ)) (ps : List Load) (next : ℕ) : Type 0 where
   pub values : values_of entries ≡ ps
   pub present : IsPresent entries next × AreHosts hosts (values_of entries)
 
-are : (entries : List (ℕ × Load)) (hosts : List (List ℕ × ℕ)) (ps : List Load) (next : ℕ) → entries ≡ tagged_items (λ p. p.node.number) ps → IsRising 1 (map (λ p. p.node.number) ps) next →
-    length ps ≤ nodes_max → AreHosts hosts ps → Are entries hosts ps next
-are entries hosts ps next e rising few there =
-    let vs : values_of entries ≡ ps = ap values_of e ∙ values-tagged (λ (p : Load). p.node.number) ps in
-    record {
-      values = vs;
-      present = (
-        subst (λ (xs : List Load). (entries ≡ tagged_items (λ p. p.node.number) xs) × IsRising 1 (map (λ p. p.node.number) xs) next × (length xs ≤ nodes_max)) (sym vs) (e, rising, few),
-        subst (AreHosts hosts) (sym vs) there,
-      );
-    }
-
-pub found : (entries : List (ℕ × Load)) (next n : ℕ) → IsPresent entries next → lookup (nat_eq n) entries ≡ load_at (values_of entries) n
-found entries next n h = ap (lookup (nat_eq n)) h.0 ∙ lookup-tagged (λ (p : Load). p.node.number) (nat_eq n) n (same_number n) (values_of entries)
+with_hosts : (entries : List (ℕ × Load)) (hosts : List (List ℕ × ℕ)) (ps : List Load) (next : ℕ) → by_number.Are (λ (p : Load). p.node.number) nodes_max entries ps next → AreHosts hosts ps → Are entries hosts ps next
+with_hosts entries hosts ps next are there = record { values = are.values; present = (are.numbered, subst (AreHosts hosts) (sym are.values) there) }
 
 pub there : (entries : List (ℕ × Load)) (next n : ℕ) (p : Load) → IsPresent entries next → Some p ≡ lookup (nat_eq n) entries → load_at (values_of entries) n ≡ Some p
-there entries next n p h at = sym (at ∙ found entries next n h)
+there entries next n p h at = sym (at ∙ found_by_hash h n)
 
 -- the load at an index is the one of its number
 read_in : {A : Type 0} (xs : List A) (i : ℕ) (x : A) → slice_get xs i ≡ Some x → IsIn x xs
@@ -35,9 +28,6 @@ read_in (y ∷ ys) (suc i) x e = inr (read_in ys i x e)
 
 pub nth_found : (loads : List Load) (next i : ℕ) (p : Load) → IsRising 1 (map (λ q. q.node.number) loads) next → slice_get loads i ≡ Some p → load_at loads p.node.number ≡ Some p
 nth_found loads next i p rising at = found_by_number (λ (q : Load). q.node.number) 1 loads next p rising (read_in loads i p at)
-
-pub absent : (entries : List (ℕ × Load)) (next : ℕ) → IsPresent entries next → lookup (nat_eq next) entries ≡ None
-absent entries next h = found entries next next h ∙ none_at_end (λ (p : Load). p.node.number) next 1 (values_of entries) h.1
 
 -- the count of a host, as it is kept
 pub counted : (v n : ℕ) → Some v ≡ some_count n → v ≡ n
@@ -126,40 +116,26 @@ pub removed : (old new : List (ℕ × Load)) (next n : ℕ) (hosts left : List (
     Some p ≡ lookup (nat_eq n) old → HasCount host count hosts left → is_text 64 host ≡ true → count ≡ count_by (with_host host) (values_of old) - 1 → new ≡ remove_entry (nat_eq n) old →
     Are new left (filter (λ q. not (q.node.number == n)) (values_of old)) next
 removed old new next n hosts left p host count its h at has text is e =
-    let num = λ (q : Load). q.node.number in
-    let t = λ (q : Load). not (q.node.number == n) in
-    are new left (filter t (values_of old)) next (e ∙ ap (remove_entry (nat_eq n)) h.0.0 ∙ remove-tagged num (nat_eq n) n (same_number n) 1 (values_of old) next h.0.1)
-    (rising_kept num t 1 (values_of old) next h.0.1)
-    (omega (arith, length-kept t (values_of old), h.0.2))
-    (host_removed p host its next n (values_of old) h.0.1 (there old next n p h.0 at) hosts left count h.1 has text is)
+    with_hosts new left (filter (λ q. not (q.node.number == n)) (values_of old)) next (by_number.removed h.0 (nat_eq n) n (same_number n) new e)
+    (host_removed p host its next n (values_of old) h.0.rising (there old next n p h.0 at) hosts left count h.1 has text is)
 
 pub pushed : (old new : List (ℕ × Load)) (next : ℕ) (hosts more : List (List ℕ × ℕ)) (p : Load) (host : List ℕ) (count : ℕ) → p.node.host ≡ host → IsPresent old next × AreHosts hosts (values_of old) →
     length (values_of old) < nodes_max → p.node.number ≡ next → HasCount host count hosts more → is_text 64 host ≡ true → count ≡ count_by (with_host host) (values_of old) + 1 →
     new ≡ old ++ (next, p) ∷ [] → Are new more (values_of old ++ p ∷ []) (next + 1)
 pushed old new next hosts more p host count its h few last has text is e =
-    let num = λ (p : Load). p.node.number in
-    are new more (values_of old ++ p ∷ []) (next + 1) (e ∙ ap (λ (es : List (ℕ × Load)). es ++ (next, p) ∷ []) h.0.0 ∙ push-tagged num (values_of old) next p last)
-    (rising_more num 1 (values_of old) p next last h.0.1)
-    (omega (arith, length-append (values_of old) (p ∷ []), few))
-    (host_pushed p host its hosts more (values_of old) count h.1 has text is)
+    with_hosts new more (values_of old ++ p ∷ []) (next + 1) (by_number.pushed h.0 new p few last e) (host_pushed p host its hosts more (values_of old) count h.1 has text is)
 
 pub changed : (old new : List (ℕ × Load)) (next n : ℕ) (hosts : List (List ℕ × ℕ)) (change : Load → Load) → ((p : Load) → ((change p).node.number ≡ p.node.number) × ((change p).node.host ≡ p.node.host)) → (p w : Load) →
     IsPresent old next × AreHosts hosts (values_of old) → Some p ≡ lookup (nat_eq n) old → w ≡ change p → new ≡ set_value (nat_eq n) old w → Are new hosts (change_load n change (values_of old)) next
 changed old new next n hosts change keeps p w h at is e =
-    let num = λ (p : Load). p.node.number in
-    let only : (q : Load) → load_at (values_of old) n ≡ Some q → w ≡ change q = λ q is_it. is ∙ ap change (same_Some p q (sym (there old next n p h.0 at) ∙ is_it)) in
-    are new hosts (change_load n change (values_of old)) next
-    (e ∙ ap (λ (es : List (ℕ × Load)). set_value (nat_eq n) es w) h.0.0 ∙ set-tagged num (nat_eq n) n (same_number n) change (λ p. (keeps p).0) w 1 (values_of old) next h.0.1 only)
-    (subst (λ ns. IsRising 1 ns next) (sym (kept-change num num n change (λ p. (keeps p).0) (values_of old))) h.0.1)
-    (omega (arith, length-map (values_of old) (λ p. if p.node.number == n then change p else p), h.0.2))
-    (hosts_stay hosts n change (λ p. (keeps p).1) (values_of old) h.1)
+    with_hosts new hosts (change_load n change (values_of old)) next (by_number.changed h.0 change (λ q. (keeps q).0) n new p w at is e) (hosts_stay hosts n change (λ q. (keeps q).1) (values_of old) h.1)
 
 pub not_none : {X : Type 0} (o : Option X) → o ≡ None → IsSome o → ⊥
 not_none (Some p) e h = absurd (cc e)
 not_none None e h = absurd (cc h)
 
 pub no_load_at : (entries : List (ℕ × Load)) (next n : ℕ) → IsPresent entries next → None ≡ lookup (nat_eq n) entries → IsSome (load_at (values_of entries) n) → ⊥
-no_load_at entries next n h none = not_none (load_at (values_of entries) n) (sym (none ∙ found entries next n h))
+no_load_at entries next n h none = not_none (load_at (values_of entries) n) (sym (none ∙ found_by_hash h n))
 
 pub of_found : (P : Load → Type 0) (o : Option Load) (p : Load) → o ≡ Some p → IfSome o P → P p
 of_found P (Some q) p e h = subst P (same_Some q p e) h
@@ -168,3 +144,11 @@ of_found P None p e h = absurd (cc e)
 pub if_found : (P : Load → Type 0) (o : Option Load) (p : Load) → o ≡ Some p → P p → IfSome o P
 if_found P (Some q) p e h = subst P (sym (same_Some q p e)) h
 if_found P None p e h = absurd (cc e)
+
+pub if_none : (P : Load → Type 0) (o : Option Load) → None ≡ o → IfSome o P
+if_none P None e = tt
+if_none P (Some q) e = absurd (cc e)
+
+pub if_any : (P : Load → Type 0) (o : Option Load) → ((p : Load) → P p) → IfSome o P
+if_any P None all = tt
+if_any P (Some q) all = all q

@@ -7,7 +7,7 @@ use Rattle.std.specs.Map.{lookup, values_of}
 use Rattle.std.specs.Ordering.{nat_cmp, ordering_then}
 use Rattle.std.specs.declared.cmp.Ordering.{Ordering}
 use Rattle.cap_vector.specs.Vector.{Fits, IsWithin, amount_max, plus, less, zeros}
-use Rattle.cap_base.specs.Limits.{live_max, nodes_max}
+use Rattle.cap_base.specs.Limits.{live_max}
 use Rattle.cap_base.specs.Amounts.{sum_where}
 use Rattle.cap_base.specs.Members.{IsRising}
 use Rattle.cap_base.specs.Texts.{is_text}
@@ -110,12 +110,11 @@ pub record HasOne (resource : List ℕ) (p : Load) : Type 0 where
 abbrev pub tagged_items : {X : Type 0} → (X → ℕ) → List X → List (ℕ × X)
 tagged_items num xs = map (λ x. (num x, x)) xs
 
--- the entries are the loads by number, which rise and are few
-abbrev pub IsPresent : List (ℕ × Load) → ℕ → Type 0
-IsPresent entries next =
-    (entries ≡ tagged_items (λ p. p.node.number) (values_of entries))
-    × IsRising 1 (map (λ p. p.node.number) (values_of entries)) next
-    × (length (values_of entries) ≤ nodes_max)
+-- entries are items by number, which rise from 1 and are below the next, and are at most so many
+pub record IsNumbered {X : Type 0} (num : X → ℕ) (most : ℕ) (entries : List (ℕ × X)) (next : ℕ) : Type 0 where
+  pub tagged : entries ≡ tagged_items num (values_of entries)
+  pub rising : IsRising 1 (map num (values_of entries)) next
+  pub few : length (values_of entries) ≤ most
 
 -- a count that is kept only where there are some, and hosts with one of this count in place of the old
 abbrev pub some_count : ℕ → Option ℕ
@@ -169,10 +168,3 @@ is_of key (Some c) owner = key c == owner
 -- each owner has its containers by the pairs
 abbrev pub IsOwnerIndex : (Container → ℕ) → List Container → List (ℕ × ℕ) → Type 0
 IsOwnerIndex key live pairs = (owner number : ℕ) → has_pair pairs owner number ≡ is_of key (find (λ c. c.number == number) live) owner
-
--- the entries are the containers by number, which rise and are few
-abbrev pub IsContainerTable : List (ℕ × Container) → ℕ → Type 0
-IsContainerTable entries next =
-    (entries ≡ tagged_items (λ c. c.number) (values_of entries))
-    × IsRising 1 (map (λ c. c.number) (values_of entries)) next
-    × (length (values_of entries) ≤ live_max)

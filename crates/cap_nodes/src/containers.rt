@@ -26,13 +26,14 @@ pub(crate) struct Containers<const K: usize> {
 
 impl<const K: usize> Model for Containers<K> {
     ghost use Rattle.std.specs.BTreeMap.{values};
-    ghost use Rattle.cap_nodes.specs.Loads.{ContainerTable, IsOwnerIndex, IsContainerTable};
+    ghost use Rattle.cap_nodes.specs.Loads.{ContainerTable, IsNumbered, IsOwnerIndex};
+    ghost use Rattle.cap_base.specs.Limits.{live_max};
 
     ghost Value = { ContainerTable };
 
     ghost view = { λ l. record { containers = values l.containers; next = l.next } };
 
-    ghost invariant = { λ l. IsContainerTable l.containers.entries l.next
+    ghost invariant = { λ l. IsNumbered (λ c. c.number) live_max l.containers.entries l.next
         × IsOwnerIndex (λ c. c.app) (values l.containers) l.of_apps
         × IsOwnerIndex (λ c. c.node) (values l.containers) l.on_nodes };
 }

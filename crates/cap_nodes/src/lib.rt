@@ -1,6 +1,7 @@
 //! The nodes of a cluster, and the containers that are live on them.
 #![tactic(auto)]
 
+mod change;
 mod containers;
 mod load;
 mod node;

@@ -1,8 +1,10 @@
 //! A node with what its live containers hold, how many they are, and its reservation (`Load`).
-ghost use Rattle.std.specs.Prelude.{◌≡◌, Some, length};
-ghost use Rattle.cap_vector.specs.Vector.{Fits, plus, less};
-ghost use Rattle.cap_nodes.specs.Loads.{CanHold, HasOne, held_more, held_less, beaten_load, reserved_load, unreserved_load};
+ghost use Rattle.std.specs.Prelude.{◌≡◌, Some};
+ghost use Rattle.cap_vector.specs.Vector.{Fits, less};
+ghost use Rattle.cap_nodes.specs.Changes.{Counts, MayChange, changed_by};
+ghost use Rattle.cap_nodes.specs.Loads.{beaten_load};
 
+use crate::change::Change;
 use crate::node::Node;
 use cap_model::{HeartbeatReply, Reservation};
 use cap_vector::{Resource, checked_add, minus};
@@ -70,42 +72,31 @@ impl<const K: usize> Load<K> {
         minus(&self.node.total(), &self.held)
     }
 
-    /// One more container of this resource is live on it.
-    pub(crate) fn hold(&mut self, resource: &Resource<K>)
-        requires { CanHold resource.now self.old }
-        ensures more { self.new ≡ held_more resource.now self.old }
-        ensures count { length (plus self.old.held resource.now) ≡ K }
+    /// Changes it, where it has room for a container that becomes live, and holds one that is live no longer.
+    pub(crate) fn change(&mut self, change: Change<'_, K>)
+        requires { MayChange change self.old }
+        ensures load { self.new ≡ changed_by change.entry self.old }
+        ensures count { Counts change.entry self.old }
     {
-        let Some(held) = checked_add(&self.held, resource) else {
-            unreachable!()
-        };
-        self.held = held;
-        self.live += 1;
-    }
-
-    /// One container of this resource is live on it no longer.
-    pub(crate) fn lift(&mut self, resource: &Resource<K>)
-        requires { HasOne resource.now self.old }
-        ensures { self.new ≡ held_less resource.now self.old }
-    {
-        self.held = minus(&self.held, resource);
-        self.live -= 1;
-    }
-
-    /// It holds this reservation from now on, if it held none.
-    pub(crate) fn reserve(&mut self, reservation: &Reservation<K>)
-        ensures { self.new ≡ reserved_load reservation.now self.old }
-    {
-        if self.reservation.is_none() {
-            self.reservation = Some(*reservation);
+        match change {
+            Change::Hold(resource) => {
+                let Some(held) = checked_add(&self.held, resource) else {
+                    unreachable!()
+                };
+                self.held = held;
+                self.live += 1;
+            }
+            Change::Lift(resource) => {
+                self.held = minus(&self.held, resource);
+                self.live -= 1;
+            }
+            Change::Reserve(reservation) => {
+                if self.reservation.is_none() {
+                    self.reservation = Some(*reservation);
+                }
+            }
+            Change::Unreserve => self.reservation = None,
         }
-    }
-
-    /// It holds no reservation any longer.
-    pub(crate) fn unreserve(&mut self)
-        ensures { self.new ≡ unreserved_load self.old }
-    {
-        self.reservation = None;
     }
 
     /// One more heartbeat of it is answered, of which so many ends named no container that was live on it. The result is the reply,

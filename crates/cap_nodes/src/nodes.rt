@@ -16,6 +16,7 @@ ghost use Rattle.cap_model.specs.Uses.{held_on};
 ghost use Rattle.cap_nodes.specs.Tables.{free_on, IsLoadIn, IsSound};
 ghost use Rattle.cap_nodes.specs.Loads.{add_container, new_reservation, reservation_of, after_beat_of, made_after};
 
+use crate::change::Change;
 use crate::containers::Containers;
 use crate::load::Load;
 use crate::node::Node;
@@ -309,7 +310,7 @@ impl<const K: usize> Nodes<K> {
             Ok(number) => number,
             Err(_) => return Err(NoMemory),
         };
-        self.present.hold(node, resource);
+        self.present.change(node, Change::Hold(resource));
         Ok(number)
     }
 
@@ -320,7 +321,8 @@ impl<const K: usize> Nodes<K> {
     {
         self.live.numbers_rise();
         self.live.remove(container.number());
-        self.present.lift(container.node(), &container.resource());
+        self.present
+            .change(container.node(), Change::Lift(&container.resource()));
     }
 
     /// A node keeps this much, in MiB, vcores and GPUs, for the ask of a key of an application, after all other reservations.
@@ -345,12 +347,13 @@ impl<const K: usize> Nodes<K> {
             Ok(_) => {}
             Err(_) => return Err(NoMemory),
         }
-        self.present.reserve(&Reservation {
+        let reservation = Reservation {
             app,
             key: *key,
             node,
             resource: *resource,
-        });
+        };
+        self.present.change(node, Change::Reserve(&reservation));
         Ok(())
     }
 
@@ -363,7 +366,7 @@ impl<const K: usize> Nodes<K> {
         self.reserved.numbers_rise();
         if let Some(container) = self.reserved.next_on_node(node, 0) {
             self.reserved.remove(container.number());
-            self.present.unreserve(node);
+            self.present.change(node, Change::Unreserve);
         }
     }
 

@@ -2,12 +2,13 @@
 ghost use Rattle.std.specs.Prelude.{◌≡◌, ◌+◌, ◌<◌, ◌≤◌, [], Some, None, option_and_then, ◌==◌, IsSome, IfSome, IfOk, OnOk, OnErr, bytes_eq, count_by, length, filter, not, true};
 ghost use Rattle.std.specs.List.{list_any, slice_get};
 ghost use Rattle.std.specs.Option.{option_copied};
-ghost use Rattle.cap_vector.specs.Vector.{plus};
 ghost use Rattle.cap_base.specs.Limits.{nodes_max, number_end};
 ghost use Rattle.indexmap.specs.IndexMap.{get};
 ghost use Rattle.cap_base.specs.Texts.{is_text};
-ghost use Rattle.cap_nodes.specs.Loads.{CanHold, HasOne, HasCount, load_at, held_more, held_less, beaten_load, reserved_load, unreserved_load, add_load, with_load};
+ghost use Rattle.cap_nodes.specs.Changes.{Counts, MayChange, changed_by};
+ghost use Rattle.cap_nodes.specs.Loads.{HasCount, load_at, beaten_load, add_load, with_load};
 
+use crate::change::Change;
 use crate::load::Load;
 use crate::node::Node;
 use cap_model::{HeartbeatReply, NoMemory, Reservation, ShortText};
@@ -28,13 +29,14 @@ pub(crate) struct Present<const K: usize> {
 
 impl<const K: usize> Model for Present<K> {
     ghost use Rattle.std.specs.HashMap.{values};
-    ghost use Rattle.cap_nodes.specs.Loads.{AreHosts, IsPresent, LoadTable};
+    ghost use Rattle.cap_nodes.specs.Loads.{AreHosts, IsNumbered, LoadTable};
+    ghost use Rattle.cap_base.specs.Limits.{nodes_max};
 
     ghost Value = { LoadTable };
 
     ghost view = { λ t. record { loads = values t.loads; next = t.next } };
 
-    ghost invariant = { λ t. IsPresent t.loads.entries t.next
+    ghost invariant = { λ t. IsNumbered (λ p. p.node.number) nodes_max t.loads.entries t.next
         × AreHosts t.hosts.entries (values t.loads) };
 }
 
@@ -140,51 +142,16 @@ impl<const K: usize> Present<K> {
         Ok(number)
     }
 
-    /// One more container of this resource is live on a node.
-    pub(crate) fn hold(&mut self, number: u64, resource: &Resource<K>)
-        requires present { IsSome (load_at self.old.loads number) }
-        requires room { IfSome (load_at self.old.loads number) (CanHold resource.now) }
-        ensures more { self.new ≡ with_load number (held_more resource.now) self.old }
-        ensures count { IfSome (load_at self.old.loads number)
-            (λ p. length (plus p.held resource.now) ≡ K) }
-    {
-        match self.loads.get_mut(&number) {
-            Some(load) => load.hold(resource),
-            None => unreachable!(),
-        }
-    }
-
-    /// One container of this resource is live on a node no longer.
-    pub(crate) fn lift(&mut self, number: u64, resource: &Resource<K>)
-        requires present { IsSome (load_at self.old.loads number) }
-        requires one { IfSome (load_at self.old.loads number) (HasOne resource.now) }
-        ensures { self.new ≡ with_load number (held_less resource.now) self.old }
-    {
-        match self.loads.get_mut(&number) {
-            Some(load) => load.lift(resource),
-            None => unreachable!(),
-        }
-    }
-
-    /// The node that a reservation is for holds it from now on, if it held none. Where that node is not present, nothing changes.
-    pub(crate) fn reserve(&mut self, reservation: &Reservation<K>)
-        ensures { self.new ≡
-            with_load reservation.now.node (reserved_load reservation.now) self.old }
-    {
-        let Some(load) = self.loads.get_mut(&reservation.node()) else {
-            return;
-        };
-        load.reserve(reservation);
-    }
-
-    /// A node holds no reservation any longer. Where none of this number is present, nothing changes.
-    pub(crate) fn unreserve(&mut self, number: u64)
-        ensures { self.new ≡ with_load number unreserved_load self.old }
+    /// A node changes. Where none of this number is present, nothing changes.
+    pub(crate) fn change(&mut self, number: u64, change: Change<'_, K>)
+        requires { IfSome (load_at self.old.loads number) (MayChange change) }
+        ensures loads { self.new ≡ with_load number (changed_by change.entry) self.old }
+        ensures count { IfSome (load_at self.old.loads number) (Counts change.entry) }
     {
         let Some(load) = self.loads.get_mut(&number) else {
             return;
         };
-        load.unreserve();
+        load.change(change);
     }
 
     /// One more heartbeat of a node is answered, of which so many ends named no container that was live there. The result is the

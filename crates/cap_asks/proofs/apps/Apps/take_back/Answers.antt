@@ -1,17 +1,11 @@
-use Rattle.cap_asks.proofs.Waiters.{taken_back}
+use Rattle.cap_asks.proofs.Waiters.{taken_back, waiters_rise}
 use Rattle.cap_asks.proofs.apps.Apps.take_back.Goals as goal
 
 pub set_waiting-requires-clause-rising : goal.set_waiting-requires-clause-rising
-set_waiting-requires-clause-rising g c = (taken_back (c.in-Some.number, c.in-Some.slot) c.self.inside.apps c.try_remove.new.self c.self.inside.index.entries c.pop_last.new.self.entries c.self.invariant c.in-Some.ensures.removal c.in-Some.ensures.value c.try_remove.ensures.updates).put.rising
-
-pub set_waiting-requires-clause-room : goal.set_waiting-requires-clause-room
-set_waiting-requires-clause-room g c = (taken_back (c.in-Some.number, c.in-Some.slot) c.self.inside.apps c.try_remove.new.self c.self.inside.index.entries c.pop_last.new.self.entries c.self.invariant c.in-Some.ensures.removal c.in-Some.ensures.value c.try_remove.ensures.updates).put.fits
-
-pub set_waiting-requires-clause-slot_room : goal.set_waiting-requires-clause-slot_room
-set_waiting-requires-clause-slot_room g c = (taken_back (c.in-Some.number, c.in-Some.slot) c.self.inside.apps c.try_remove.new.self c.self.inside.index.entries c.pop_last.new.self.entries c.self.invariant c.in-Some.ensures.removal c.in-Some.ensures.value c.try_remove.ensures.updates).put.slots_fit
+set_waiting-requires-clause-rising g c = waiters_rise c.self.invariant
 
 pub invariant_of-self-2 : goal.invariant_of-self-2
-invariant_of-self-2 g c = (taken_back (c.in-Some.number, c.in-Some.slot) c.self.inside.apps c.try_remove.new.self c.self.inside.index.entries c.pop_last.new.self.entries c.self.invariant c.in-Some.ensures.removal c.in-Some.ensures.value c.try_remove.ensures.updates).put.whole c.set_waiting.ensures.items c.set_waiting.ensures.beside c.set_waiting.ensures.room c.set_waiting.ensures.slot_room
+invariant_of-self-2 g c = (taken_back (c.in-Some.number, c.in-Some.slot) c.self.inside.apps c.try_remove.new.self c.self.inside.index.entries c.pop_last.new.self.entries c.self.invariant c.in-Some.ensures.removal c.in-Some.ensures.value c.try_remove.ensures.updates).whole c.set_waiting.ensures.items c.set_waiting.ensures.room
 
 pub returns-clause-table : goal.returns-clause-table
 returns-clause-table g c = λ leaf user table e. (taken_back (c.in-Some.number, c.in-Some.slot) c.self.inside.apps c.try_remove.new.self c.self.inside.index.entries c.pop_last.new.self.entries c.self.invariant c.in-Some.ensures.removal c.in-Some.ensures.value c.try_remove.ensures.updates).table leaf user table (rw (← c.self.view_is) at e)

@@ -3,4 +3,4 @@ use Rattle.cap_nodes.proofs.ByNumber.{found}
 use Rattle.cap_nodes.proofs.containers.Containers.get.Goals as goal
 
 pub returns : goal.returns
-returns g c = rw (← c.self.view_is) (c.copied.ensures ∙ c.get.ensures.value ∙ found c.self.inside.containers.entries c.self.inside.next c.args.number c.self.invariant.0)
+returns g c = rw (← c.self.view_is) (c.copied.ensures ∙ c.get.ensures.value ∙ found c.self.invariant.0 c.args.number)

@@ -6,12 +6,12 @@ use Rattle.cap_nodes.proofs.containers.Containers.next_of_app.Goals as goal
 pub returns-in_default : goal.returns-in_default
 returns-in_default g c =
     rw (← c.self.view_is)
-    (none_of (λ (x : Container). x.app) c.args.app c.args.after (values_of c.self.inside.containers.entries) c.self.inside.of_apps c.self.inside.next c.self.invariant.1 c.self.invariant.0.1 c.in_default.ensures.none)
+    (none_of (λ (x : Container). x.app) c.args.app c.args.after (values_of c.self.inside.containers.entries) c.self.inside.of_apps c.self.inside.next c.self.invariant.1 c.self.invariant.0.rising c.in_default.ensures.none)
 
 pub returns : goal.returns
 returns g c =
     let first =
-    first_of (λ (x : Container). x.app) c.args.app c.args.after (values_of c.self.inside.containers.entries) c.self.inside.of_apps c.self.inside.next c.self.invariant.1 c.self.invariant.0.1
+    first_of (λ (x : Container). x.app) c.args.app c.args.after (values_of c.self.inside.containers.entries) c.self.inside.of_apps c.self.inside.next c.self.invariant.1 c.self.invariant.0.rising
     c.in-Some.number c.in-Some.ensures.has c.in-Some.ensures.above c.in-Some.ensures.least
     in
-    rw (← c.self.view_is) (c.copied.ensures ∙ c.get.ensures.value ∙ found c.self.inside.containers.entries c.self.inside.next c.in-Some.number c.self.invariant.0 ∙ first)
+    rw (← c.self.view_is) (c.copied.ensures ∙ c.get.ensures.value ∙ found c.self.invariant.0 c.in-Some.number ∙ first)

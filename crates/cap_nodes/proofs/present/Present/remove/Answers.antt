@@ -1,13 +1,14 @@
 use Rattle.cap_nodes.proofs.Prelude.{◌≡◌, ◌∙◌, ◌-◌, ap, sym, List, arith, count_by, ◌==◌, values_of, ClusterNode, Load, LoadTable}
 use Rattle.cap_nodes.proofs.Numbered.{none_gone}
-use Rattle.cap_nodes.proofs.Presents.{found, has_host, none_counted, removed, there, with_host}
+use Rattle.cap_nodes.proofs.Presents.{has_host, none_counted, removed, there, with_host}
+use Rattle.cap_nodes.proofs.ByNumber.{found_by_hash}
 use Rattle.cap_nodes.proofs.present.Present.remove.Goals as goal
 
 pub returns-in_default : goal.returns-in_default
 returns-in_default g c =
     rw (← c.self.view_is)
     (ap (λ (xs : List Load). let t : LoadTable = record { loads = xs; next = c.self.inside.next } in t)
-    (sym (none_gone (λ (p : Load). p.node.number == c.args.number) (values_of c.self.inside.loads.entries) (c.in_default.ensures.value ∙ found c.self.inside.loads.entries c.self.inside.next c.args.number c.self.invariant.0))))
+    (sym (none_gone (λ (p : Load). p.node.number == c.args.number) (values_of c.self.inside.loads.entries) (c.in_default.ensures.value ∙ found_by_hash c.self.invariant.0 c.args.number))))
 
 pub overflow_sub-count : goal.overflow_sub-count
 overflow_sub-count g c =
@@ -15,7 +16,7 @@ overflow_sub-count g c =
     let its = sym (c.host.ensures ∙ ap (λ (x : ClusterNode). x.host) c.node.ensures) in
     let at = there c.self.inside.loads.entries c.self.inside.next c.args.number c.in-Some.load.now c.self.invariant.0 c.in-Some.ensures.value in
     let count : c.count_at-count.result ≡ count_by (with_host c.host.result.now) loads = rw (← c.self.view_is) at c.count_at-count.ensures in
-    omega (arith, count, has_host c.in-Some.load.now c.host.result.now its c.self.inside.next c.args.number loads c.self.invariant.0.1 at)
+    omega (arith, count, has_host c.in-Some.load.now c.host.result.now its c.self.inside.next c.args.number loads c.self.invariant.0.rising at)
 
 pub unreachable-requires : goal.unreachable-requires
 unreachable-requires g c =
@@ -23,7 +24,7 @@ unreachable-requires g c =
     let its = sym (c.host.ensures ∙ ap (λ (x : ClusterNode). x.host) c.node.ensures) in
     let at = there c.self.inside.loads.entries c.self.inside.next c.args.number c.in-Some.load.now c.self.invariant.0 c.in-Some.ensures.value in
     let none = none_counted (count_by (with_host c.host.result.now) loads) (sym c.in_default-set_count.ensures.absent ∙ c.self.invariant.1.counts c.host.result.now) in
-    absurd (omega (arith, none, has_host c.in-Some.load.now c.host.result.now its c.self.inside.next c.args.number loads c.self.invariant.0.1 at))
+    absurd (omega (arith, none, has_host c.in-Some.load.now c.host.result.now its c.self.inside.next c.args.number loads c.self.invariant.0.rising at))
 
 pub invariant_of-self : goal.invariant_of-self
 invariant_of-self g c =
