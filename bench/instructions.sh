@@ -231,7 +231,7 @@ compare() {
   ratio "${cost[$2]}" "${cost[$1]}" "$3" || broken=1
 }
 
-measure cluster_info 8000 3300 '^out [0-9]* 00000033010a'
+measure cluster_info 3000 3300 '^out [0-9]* 00000033010a'
 measure heartbeat 2000 4000 '^out 1 000000110106[0-9a-f]\{8\}00'
 measure allocate 1024 45000 '^out 1 0000000f0103[0-9a-f]\{8\}00'
 measure queue 480 40000 '^out 1 000000[0-9a-f]\{2\}0108[0-9a-f]\{8\}00'

@@ -1,5 +1,5 @@
 -- What the proofs here take from elsewhere.
-pub use Rattle.std.proofs.Common.{All, Bool, Err, List, Ok, OnOk, Result, Some, [], ap, append-nil, append_assoc, ap₂, arith, drop, drop_at, false, get_or, inl, inr, is_ok, length, length-append, length-drop, length-take, lit<, nat_le, refl, subst, suc, sym, take, take-append-drop, take_at, true, zero, ℕ, ◌%◌, ◌++◌, ◌+◌, ◌-◌, ◌/◌, ◌<◌, ◌^◌, ◌↔◌, ◌∙◌, ◌∷◌, ◌≡◌, ◌≤◌, ◌⊎◌}
+pub use Rattle.std.proofs.Common.{All, Bool, List, Ok, Some, [], ap, append-nil, append_assoc, ap₂, arith, drop, drop_at, false, get_or, inl, inr, length, length-append, length-drop, length-take, lit<, nat_le, refl, subst, suc, sym, take, take-append-drop, take_at, true, zero, ℕ, ◌%◌, ◌++◌, ◌+◌, ◌-◌, ◌/◌, ◌<◌, ◌^◌, ◌↔◌, ◌∙◌, ◌∷◌, ◌≡◌, ◌≤◌, ◌⊎◌}
 pub use Rattle.std.proofs.lemmas.Bool.{cases_eq, cases_lt, cond-true, le-leb}
 pub use Rattle.std.proofs.lemmas.Grind.{flat_map-append}
 pub use Rattle.std.proofs.lemmas.List.{append_cancel_left, flat_map_more, get_or-take, get_or_past, length-take-le, map_push, take-append-le}

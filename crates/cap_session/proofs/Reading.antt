@@ -58,10 +58,6 @@ reads_more {h} {k} {old} {was} {had} {has} m o now have r gift is added requeste
       ∙ ap (λ (x : List (List ℕ)). h.given ++ x) (sym (map-append (λ (x : OpenRequest). x.payload) r.more (o ∷ [])));
 }
 
--- nothing more was given where the framer gave nothing
-pub reads_still : {h k : History} {old now : List OpenRequest} {had has : List (Request resources)} (m : History) → ReadsAhead h k old now had has → m.fed ≡ k.fed → m.given ≡ k.given → ReadsAhead h m old now had has
-reads_still m r fed given = record { more = r.more; asked = r.asked; requests = r.requests; read = r.read; fed = fed ∙ r.fed; given = given ∙ r.given }
-
 -- what was promised where memory was found
 pub has_room : {E P : Type 0} (r : Result (Unit {0}) E) → false ≡ is_err r → OnOk r P → P
 has_room (Ok u) found room = room

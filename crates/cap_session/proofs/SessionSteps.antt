@@ -41,19 +41,10 @@ bad_more {h} {k} {u} {v} {old} {log} m w new p e l none r gift is said one empty
       given = given.1;
     }
 
--- one more payload was given, and memory was refused
-pub starved_after : {h k : History} {v : List ℕ} {old log : AnswerLog} (m : History) (p : List ℕ) (u w : Filled) (asked : List OpenRequest) → AnswersAllBad h k u.items v old log → m ≡ after_gift k p → w.items ≡ v → asked ≡ [] → IsReading m → Finds h m asked u w old log (nexts.Ended causes.NoMemory)
-starved_after m p u w asked r gift same none reading =
-    let given = bad_given m p r gift in
-    let step = given.0 in
-    (r.payloads, r.frames, p ∷ [], record { answers = step.answers; fed = step.fed; unsent = same ∙ step.unsent; answered = step.answered; calls = step.calls }, given.1, none, reading)
-
 -- a length that no frame has
-pub fault_found : {h k : History} {v : List ℕ} {old log : AnswerLog} (m : History) (u w : Filled) (asked : List OpenRequest) (f : Next) → AnswersAllBad h k u.items v old log → m.fed ≡ k.fed → m.given ≡ k.given → asked ≡ [] → IsAtFault k → IsReading m → EndsWith v w.items f → Finds h m asked u w old log f
-fault_found m u w asked (nexts.Request request) r fed given none at reading ends = absurd ends
-fault_found m u w asked nexts.Need r fed given none at reading ends = absurd ends
-fault_found m u w asked (nexts.Ended causes.WriteFault) r fed given none at reading ends = absurd ends
-fault_found {h} {k} {v} {old} {log} m u w asked (nexts.Ended causes.BadLength) r fed given none at reading ends = (
+pub fault_found : {h k : History} {v : List ℕ} {old log : AnswerLog} (m : History) (u w : Filled) (asked : List OpenRequest) (cause : SessionCause) → AnswersAllBad h k u.items v old log → m.fed ≡ k.fed → m.given ≡ k.given → asked ≡ [] → IsAtFault k → IsReading m → EndsWith v w.items cause → Finds h m asked u w old log (nexts.Ended cause)
+fault_found m u w asked causes.WriteFault r fed given none at reading ends = absurd ends
+fault_found {h} {k} {v} {old} {log} m u w asked causes.BadLength r fed given none at reading ends = (
   r.payloads,
   r.frames,
   v,
@@ -64,7 +55,7 @@ fault_found {h} {k} {v} {old} {log} m u w asked (nexts.Ended causes.BadLength) r
   reading,
   (at.0, subst (λ (x : List ℕ). IsStream x m.given (fault at.0)) (sym fed) (subst (λ (x : List (List ℕ)). IsStream k.fed x (fault at.0)) (sym given) at.1)),
 )
-fault_found {h} {k} {v} {old} {log} m u w asked (nexts.Ended causes.NoMemory) r fed given none at reading ends = (
+fault_found {h} {k} {v} {old} {log} m u w asked causes.NoMemory r fed given none at reading ends = (
   r.payloads,
   r.frames,
   [],

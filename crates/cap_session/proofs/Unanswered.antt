@@ -1,5 +1,5 @@
 -- How many bytes are in no payload that was answered.
-use Rattle.cap_session.proofs.Prelude.{◌≡◌, ℕ, ◌+◌, ◌<◌, ◌≤◌, List, [], ◌∷◌, ◌++◌, length, length-append, ap, ◌∙◌, arith, subst, inl, inr, flat_map-append, frame_of, frames_of, tail_bytes, SessionState, FollowsStream, EndsNow, NextGives, bytes_unanswered, open_payloads, SessionCause, Next}
+use Rattle.cap_session.proofs.Prelude.{◌≡◌, ℕ, ◌+◌, ◌≤◌, List, ◌++◌, length, length-append, ap, ◌∙◌, arith, inl, inr, flat_map-append, frame_of, frames_of, SessionState, EndsNow, NextGives, bytes_unanswered, SessionCause, Next}
 use Rattle.cap_session.specs.declared.session.SessionCause.TheVariants as causes
 use Rattle.cap_session.specs.declared.session.Next.TheVariants as nexts
 
@@ -9,24 +9,6 @@ frames_more answered payloads = ap length (flat_map-append frame_of answered pay
 -- more payloads were answered
 pub fewer_unanswered : (s t : SessionState) (payloads : List (List ℕ)) → t.fed ≡ s.fed → t.answered ≡ s.answered ++ payloads → bytes_unanswered t ≤ bytes_unanswered s
 fewer_unanswered s t payloads fed answered = omega (arith, ap (λ (x : List ℕ). length x) fed, ap (λ (x : List (List ℕ)). length (frames_of x)) answered, frames_more s.answered payloads)
-
--- the payload of the first open request was
-pub one_unanswered : (s t : SessionState) (payload : List ℕ) (opens : List (List ℕ)) → FollowsStream s → open_payloads s.opens ≡ payload ∷ opens → t.fed ≡ s.fed → t.answered ≡ s.answered ++ payload ∷ [] → bytes_unanswered t < bytes_unanswered s
-one_unanswered s t payload others follows opens fed answered =
-    let later = others ++ follows.0 in
-    let rest = tail_bytes follows.1 in
-    let whole : s.fed ≡ frames_of (s.answered ++ payload ∷ later) ++ rest = subst (λ (x : List (List ℕ)). s.fed ≡ frames_of (s.answered ++ (x ++ follows.0)) ++ rest) opens follows.2.whole in
-    omega (
-      arith,
-      ap (λ (x : List ℕ). length x) whole,
-      length-append (frames_of (s.answered ++ payload ∷ later)) rest,
-      frames_more s.answered (payload ∷ later),
-      length-append (frame_of payload) (frames_of later),
-      ap (λ (x : List ℕ). length x) fed,
-      ap (λ (x : List (List ℕ)). length (frames_of x)) answered,
-      frames_more s.answered (payload ∷ []),
-      length-append (frame_of payload) [],
-    )
 
 ends_fewer : (s t : SessionState) (cause : SessionCause) → EndsNow s t cause → bytes_unanswered t ≤ bytes_unanswered s
 ends_fewer s t causes.BadLength (payloads, frames, answers, now, end) = fewer_unanswered s t payloads (ap (λ (x : SessionState). x.fed) now) (ap (λ (x : SessionState). x.answered) now)

@@ -56,9 +56,7 @@ ended_by nexts.Need = None
 ended_by (nexts.Ended cause) = Some cause
 
 -- the fault reply 40 was written, or memory was refused for it
-abbrev pub EndsWith : List ℕ → List ℕ → Next → Type 0
-EndsWith u v (nexts.Request request) = ⊥
-EndsWith u v nexts.Need = ⊥
-EndsWith u v (nexts.Ended causes.BadLength) = v ≡ u ++ frame_of (fault_reply 40)
-EndsWith u v (nexts.Ended causes.NoMemory) = v ≡ u
-EndsWith u v (nexts.Ended causes.WriteFault) = ⊥
+abbrev pub EndsWith : List ℕ → List ℕ → SessionCause → Type 0
+EndsWith u v causes.BadLength = v ≡ u ++ frame_of (fault_reply 40)
+EndsWith u v causes.NoMemory = v ≡ u
+EndsWith u v causes.WriteFault = ⊥

@@ -1,11 +1,11 @@
 //! What comes next in a stream (`find`), and the frame of a reply, written in place (`put_reply`).
-ghost use Rattle.std.specs.Prelude.{◌≡◌, ◌*◌, ◌+◌, ◌++◌, OnOk, OnErr, [], length, true, false, ◌≤◌};
+ghost use Rattle.std.specs.Prelude.{◌≡◌, ◌*◌, ◌+◌, ◌++◌, OnOk, OnErr, [], length, true, false, ◌≤◌, Some, None};
 ghost use Rattle.cap_base.specs.Limits.{resources};
 ghost use Rattle.cap_frames.specs.History.{IsReading};
 ghost use Rattle.cap_frames.specs.Stream.{frame_of};
 ghost use Rattle.cap_grammar.specs.Spelling.{IsKind, IsOfKind, IsReply, reply_bytes, fault_reply};
 ghost use Rattle.cap_grammar.specs.Versions.{is_version};
-ghost use Rattle.cap_session.specs.Reading.{Finds, EndsWith};
+ghost use Rattle.cap_session.specs.Reading.{Finds, EndsWith, ended_by};
 
 use crate::ahead::make_room;
 use crate::asked::{Asked, ReadPayload, ReplyHead};
@@ -29,53 +29,65 @@ pub(crate) const FRAME_ROOM: usize = 4 + REPLY_ROOM;
 pub(crate) type Answered = Log<ReadPayload, Log<OwnedReply<RESOURCES>, ()>>;
 
 /// Finds the next request, and makes room for the reply to it. Each payload before it that is none is answered so, and a length
-/// that no frame has too.
+/// that no frame has too. Where the session ends, `ended` says why then.
 pub(crate) fn find(
     alloc: Global,
     framer: &mut Framer,
     asked: &mut VecDeque<Asked>,
     unsent: &mut BytesMut,
     answered: &mut Answered,
+    ended: &mut Option<SessionCause>,
 ) -> Next
-    requires { asked.old.items ≡ [] }
-    ensures { Finds framer.old framer.new asked.new.items unsent.old unsent.new
+    requires asked { asked.old.items ≡ [] }
+    requires ended { ended.old ≡ None }
+    ensures finds { Finds framer.old framer.new asked.new.items unsent.old unsent.new
         answered.old.items answered.new.items result }
+    ensures ended { ended.new ≡ ended_by result }
 {
     loop {
         let payload = match framer.next() {
             Ok(Some(payload)) => payload,
             Ok(None) => return Next::Need,
-            Err(FrameFault::BadLength) => return end(unsent),
-            Err(FrameFault::NoMemory) => return Next::Ended(SessionCause::NoMemory),
+            Err(FrameFault::BadLength) => return end(answer_bad_length(unsent), ended),
+            Err(FrameFault::NoMemory) => return end(SessionCause::NoMemory, ended),
         };
         let read = read_request(alloc, payload.as_slice());
         let opened = Log::new().and(&payload, &read);
         match read {
             Ok((head, request)) => {
                 if make_room(asked, unsent).is_err() {
-                    return Next::Ended(SessionCause::NoMemory);
+                    return end(SessionCause::NoMemory, ended);
                 }
                 asked.push_back_reserved(Asked::new(head, &request, opened));
                 return Next::Request(request);
             }
             Err(MessageFault::Bad) => {
                 let Ok(()) = put_fault(BAD_MESSAGE, unsent) else {
-                    return Next::Ended(SessionCause::NoMemory);
+                    return end(SessionCause::NoMemory, ended);
                 };
                 *answered = answered.and(&opened, &Log::new());
             }
-            Err(MessageFault::NoMemory) => return Next::Ended(SessionCause::NoMemory),
+            Err(MessageFault::NoMemory) => return end(SessionCause::NoMemory, ended),
         }
     }
 }
 
-/// Answers a length that no frame has.
-fn end(unsent: &mut BytesMut) -> Next
+/// Ends for this cause.
+fn end(cause: SessionCause, ended: &mut Option<SessionCause>) -> Next
+    ensures result { result ≡ Next.Ended cause }
+    ensures ended { ended.new ≡ Some cause }
+{
+    *ended = Some(cause);
+    Next::Ended(cause)
+}
+
+/// Answers a length that no frame has, and gives the cause for which a session ends then.
+fn answer_bad_length(unsent: &mut BytesMut) -> SessionCause
     ensures { EndsWith unsent.old.items unsent.new.items result }
 {
     match put_fault(BAD_LENGTH, unsent) {
-        Ok(()) => Next::Ended(SessionCause::BadLength),
-        Err(NoMemory) => Next::Ended(SessionCause::NoMemory),
+        Ok(()) => SessionCause::BadLength,
+        Err(NoMemory) => SessionCause::NoMemory,
     }
 }
 

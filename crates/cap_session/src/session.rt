@@ -49,20 +49,6 @@ pub enum Next {
     Ended(SessionCause),
 }
 
-impl Next {
-    ghost use Rattle.cap_session.specs.Reading.{ended_by};
-
-    // Why the session has ended, if it has.
-    fn cause(&self) -> Option<SessionCause>
-        ensures { result ≡ ended_by self.now }
-    {
-        match self {
-            Next::Ended(cause) => Some(*cause),
-            Next::Request(_) | Next::Need => None,
-        }
-    }
-}
-
 /// One connection. Contracts see the bytes that it was fed, the payloads that it answered, the requests that are open, its calls
 /// (each a request with its reply), the bytes of its answers, written out or not yet, and why it has ended.
 pub struct Session {
@@ -160,15 +146,6 @@ impl Session {
         );
     }
 
-    /// An empty list, with room for a reply to each request that was read ahead; if an allocation fails, for none.
-    pub fn room_for_replies(&self) -> Vec<OwnedReply<RESOURCES>>
-        ensures { result.items ≡ [] }
-    {
-        let mut replies = Vec::new(self.alloc);
-        let _ = replies.reserve(self.ahead.len());
-        replies
-    }
-
     /// Opens the next request that was read ahead, after those that are open. `None` where there is no such request, and then nothing
     /// changes.
     pub fn next_ahead(&mut self) -> Option<Request<RESOURCES>>
@@ -190,18 +167,23 @@ impl Session {
         if let Some(cause) = self.ended {
             return Next::Ended(cause);
         }
-        if let Some(request) = self.ahead.pop_front() {
+        if !self.ahead.is_empty() {
+            let Some(request) = self.ahead.pop_front() else {
+                unreachable!()
+            };
             return Next::Request(request);
         }
-        let next = find(
+        if self.framer.is_at_rest() {
+            return Next::Need;
+        }
+        find(
             self.alloc,
             &mut self.framer,
             &mut self.asked,
             &mut self.unsent,
             &mut self.answered,
-        );
-        self.ended = next.cause();
-        next
+            &mut self.ended,
+        )
     }
 
     /// Answers the first open request with a reply that is a refusal or one of its kind. It takes no memory and cannot fail.
