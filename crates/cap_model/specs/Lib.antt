@@ -1,3 +1,4 @@
+pub mod Stored
 pub mod Refusals
 pub mod Asks
 pub mod News

@@ -2,7 +2,7 @@
 
 use crate::container::{Container, Reservation};
 use crate::reply::OwnedReply;
-use crate::request::Request;
+use crate::stored::StoredRequest;
 
 /// One step of the cluster.
 #[derive(Drop)]
@@ -10,7 +10,7 @@ pub enum Event<const K: usize> {
     /// A call and its reply; `by` is the connection that made it.
     Call {
         by: u32,
-        request: Request<K>,
+        request: StoredRequest<K>,
         reply: OwnedReply<K>,
     },
     /// A container was granted, and is live from then on.

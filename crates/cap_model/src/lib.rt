@@ -17,6 +17,7 @@ mod reply;
 mod report;
 mod request;
 mod response_ids;
+mod stored;
 
 pub use ask::{Ask, Key, takes_place};
 pub use cap_base::{Config, NoMemory, PathText, QueueRow, ShortText, Text};
@@ -34,6 +35,7 @@ pub use reply::{OwnedReply, Reply, ReplyView, ReplyWith};
 pub use report::{ClusterReport, QueueReport};
 pub use request::Request;
 pub use response_ids::{is_bad, next_response, repeats};
+pub use stored::{BoxedRequest, StoredRequest, boxed_copy};
 
 /// Node, application and container numbers begin at 1 and stay below this.
 pub const NUMBER_END: u64 = 1 << 62;

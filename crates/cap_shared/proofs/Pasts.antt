@@ -128,17 +128,6 @@ module _ (T : TableId) (o : Flat resources) (limit seats : ℕ) (log : List Entr
   pub noted_seat : (n : ℕ) (rs rs' : List Receipt) (cluster : Flat resources) (a : NotedAnswer) → IsSeat T o limit seats n rs s.table_id s.me → IsNoted log a d d' s s' → rs' ≡ rs → Replays o log cluster → NoteHolds limit log cluster a → IsSeat T o limit seats n rs' s'.table_id s'.me
   noted_seat n rs rs' cluster a h m same run holds = seat_noted T o limit seats n rs s.table_id s.me h log m.fits s'.table_id m.seat_table cluster a rs' s'.me same run holds m.sits
 
-  pub noted_desk : (cluster : Flat resources) (bound room : ℕ) (a : NotedAnswer) → IsDesk T o limit seats cluster log d.table_id d.me bound room → IsNoted log a d d' s s' → IsDesk T o limit seats cluster log d'.table_id d'.me bound room
-  noted_desk cluster bound room a h m = record {
-    same = m.desk_table ∙ h.same;
-    keeps = m.keeps;
-    run = h.run;
-    tags = h.tags;
-    limit_is = h.limit_is;
-    fits = h.fits;
-    room_is = h.room_is;
-  }
-
   pub entered_seat : (n : ℕ) (rs rs' : List Receipt) (e : Entry) (r : Receipt) → IsSeat T o limit seats n rs s.table_id s.me → IsEntered log e r d d' s s' → position_of r ≡ length log → rs' ≡ rs ++ r ∷ [] → IsSeat T o limit seats n rs' s'.table_id s'.me
   entered_seat n rs rs' e r h m at more = seat_told T o limit seats n rs s.table_id s.me h log m.fits s'.table_id m.seat_table r rs' s'.me at more m.sits
 

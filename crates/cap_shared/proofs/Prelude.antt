@@ -1,8 +1,9 @@
 -- What the proofs here take from elsewhere.
-pub use Rattle.std.proofs.Common.{Bool, List, None, [], add-one, ap, append_assoc, arith, false, length, length-append, map, refl, set, subst, suc, sym, true, vec_capacity, zero, zero-add, ℕ, ⊎_elim, ◌++◌, ◌+◌, ◌-◌, ◌<◌, ◌==◌, ◌∙◌, ◌∷◌, ◌≡◌, ◌≢◌, ◌≤◌}
+pub use Rattle.std.proofs.Common.{Bool, List, None, Some, [], add-one, ap, append_assoc, arith, false, length, length-append, map, refl, set, subst, suc, sym, true, vec_capacity, zero, zero-add, ℕ, ⊎_elim, ◌++◌, ◌+◌, ◌-◌, ◌<◌, ◌==◌, ◌∙◌, ◌∷◌, ◌≡◌, ◌≢◌, ◌≤◌}
 pub use Rattle.std.proofs.Crossing.{crosses}
 pub use Rattle.std.proofs.lemmas.Bool.Decides.{nat_tests}
 pub use Rattle.std.proofs.lemmas.List.{append-nil, length-map, map-append}
+pub use Rattle.std.specs.List.{slice_get}
 pub use Rattle.std.specs.Prelude.{if◌then◌else◌}
 pub use Rattle.std.specs.declared.alloc.Allocator.{Ghosts}
 pub use Rattle.atomic_table.proofs.Lists.{at_set, at_snoc}

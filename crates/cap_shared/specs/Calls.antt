@@ -6,6 +6,7 @@ use Rattle.cap_model.specs.Sight.{Sight, sight_of}
 use Rattle.cap_model.specs.News.{Reply}
 use Rattle.cap_model.specs.Admission.{NodeProposal}
 use Rattle.cap_model.specs.Events.{is_no_memory}
+use Rattle.cap_model.specs.Replies.{Replies}
 use Rattle.cap_model.specs.Verdicts.{IsOf}
 use Rattle.cap_model.specs.declared.request.Request.{Request}
 use Rattle.cap_model.specs.declared.proposal.Verdict.{Verdict}
@@ -35,6 +36,14 @@ HasMore old new moments = new ≡ sitting old.seat (old.past ++ moments)
 abbrev pub CallsOk : Request resources → Sitting → Sitting → Reply resources → Type 0
 CallsOk request old new reply =
     (is_no_memory reply ≡ false) × ((n : ℕ) × HasMore old new (Entered (receipt.Call n request reply) ∷ [])) × IsOfKind (kind_of request) reply
+
+-- a call was answered, whatever its reply is
+abbrev pub IsCalled : Request resources → Sitting → Sitting → Type 0
+IsCalled request old new = (reply : Reply resources) × CallsOk request old new reply
+
+-- a call was answered by the reply function
+abbrev pub IsCalledOn : Flat resources → Request resources → Flat resources → Sitting → Sitting → Type 0
+IsCalledOn before request after old new = (reply : Reply resources) × CallsOk request old new reply × Replies before request reply after
 
 -- that a full journal kept the call from being made is noted
 abbrev pub IsSealedCall : Request resources → ℕ → Sitting → Sitting → Type 0

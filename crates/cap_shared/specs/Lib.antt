@@ -1,10 +1,8 @@
 pub mod Calls
-pub mod Events
 pub mod Journal
 pub mod Laws
 pub mod Making
 pub mod Parts
 pub mod Passes
-pub mod Requests
 pub mod Rooms
 pub mod WordRule

@@ -9,14 +9,14 @@ use Rattle.cap_model.specs.declared.replies.AllocateNumbers.{AllocateNumbers}
 use Rattle.cap_model.specs.declared.reply.ReplyWith.{ReplyWith}
 use Rattle.cap_model.specs.declared.reply.ReplyWith.TheVariants as reply
 use Rattle.cap_model.specs.declared.request.Request.{Request}
+use Rattle.cap_model.specs.Stored.{IsCopyIfBoxed}
 use Rattle.cap_shared.specs.declared.call_room.CallRoom.{CallRoom}
 use Rattle.cap_shared.specs.declared.call_room.NewsRooms.{NewsRooms}
 use Rattle.cap_shared.specs.declared.call_room.ReplyCopies.{ReplyCopies}
-use Rattle.cap_shared.specs.Requests.{IsCopyIfBoxed}
 
 -- each of the rooms has room for the grants and ends of a reply; where there are no rooms, it has none
 abbrev pub HasRoomsFor : Reply resources → Option NewsRooms → Type 0
-HasRoomsFor reply (Some rooms) = HasRoomFor reply rooms.entry × HasRoomFor reply rooms.receipt × HasRoomFor reply rooms.given
+HasRoomsFor reply (Some rooms) = HasRoomFor reply rooms.entry × HasRoomFor reply rooms.receipt
 HasRoomsFor reply None = HasRoomFor reply no_news
 
 -- the same, whatever the call is answered
@@ -32,7 +32,6 @@ pub record IsRoomFor (cluster : Flat resources) (request : Request resources) (r
 pub record AreCopiesOf (reply : Reply resources) (copies : ReplyCopies) : Type 0 where
   pub entry : copies.entry ≡ reply
   pub receipt : copies.receipt ≡ reply
-  pub given : copies.given ≡ reply
 
 -- whether a reply reports no grant and no end
 abbrev pub tells_nothing : ReplyWith resources AllocateNumbers → Bool

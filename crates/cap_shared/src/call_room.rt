@@ -1,4 +1,4 @@
-//! What a call needs beside what the cluster itself needs: room for its entry, its receipt and its reply (`CallRoom`).
+//! What a call needs beside what the cluster itself needs: room for its entry and its receipt (`CallRoom`).
 ghost use Rattle.std.specs.Prelude.{◌≡◌, ◌<◌, true, IfOk, OnOk, vec_len, vec_capacity};
 ghost use Rattle.cap_base.specs.Limits.{resources};
 ghost use Rattle.cap_model.specs.Flat.{Flat};
@@ -8,29 +8,27 @@ ghost use Rattle.cap_grammar.specs.Spelling.{IsOfKind, kind_of};
 ghost use Rattle.cap_shared.specs.Rooms.{IsRoomFor, AreRoomsFor, HasRoomsFor, AreCopiesOf, tells_nothing};
 
 use crate::entry::Receipt;
-use crate::request::{BoxedCopy, CompactRequest, boxed_copy};
 use cap_base::RESOURCES;
 use cap_commit::Cluster;
 use cap_messages::dispatch;
 use cap_model::{
-    AllocateReply, NoMemory, OwnedReply, Refusal, Reply, ReplyRoom, ReplyWith, Request,
+    AllocateReply, BoxedRequest, NoMemory, OwnedReply, Refusal, Reply, ReplyRoom, ReplyWith,
+    Request, StoredRequest, boxed_copy,
 };
 use std::alloc::Global;
 
-/// Room for the lists of the replies to an Allocate: in its entry, in its receipt, and the one that is given.
+/// Room for the lists of the reply to an Allocate, in its entry and in its receipt.
 #[derive(Drop)]
 pub struct NewsRooms {
     pub entry: ReplyRoom<RESOURCES>,
     pub receipt: ReplyRoom<RESOURCES>,
-    pub given: ReplyRoom<RESOURCES>,
 }
 
-/// A reply three times: in its entry, in its receipt, and the one that is given.
+/// A reply twice: in its entry and in its receipt.
 #[derive(Drop)]
 pub struct ReplyCopies {
     pub entry: OwnedReply<RESOURCES>,
     pub receipt: OwnedReply<RESOURCES>,
-    pub given: OwnedReply<RESOURCES>,
 }
 
 /// Room for the replies to an Allocate, whatever it is answered now; the reply to any other call needs none. If an allocation fails
@@ -58,11 +56,10 @@ fn news_rooms(
     Ok(Some(NewsRooms {
         entry: app.reply_room(alloc, *response, releases)?,
         receipt: app.reply_room(alloc, *response, releases)?,
-        given: app.reply_room(alloc, *response, releases)?,
     }))
 }
 
-/// The reply that the cluster has just given, three times. It takes no memory.
+/// The reply that the cluster has just given, twice. It takes no memory.
 pub(crate) fn own_copies(
     alloc: Global,
     news: Option<NewsRooms>,
@@ -77,7 +74,6 @@ pub(crate) fn own_copies(
         return ReplyCopies {
             entry: own_without_lists(alloc, reply),
             receipt: own_without_lists(alloc, reply),
-            given: own_without_lists(alloc, reply),
         };
     }
     let Some(news) = news else { unreachable!() };
@@ -85,7 +81,6 @@ pub(crate) fn own_copies(
     ReplyCopies {
         entry: news.entry.own(&reply),
         receipt: news.receipt.own(&reply),
-        given: news.given.own(&reply),
     }
 }
 
@@ -121,8 +116,8 @@ fn own_without_lists(alloc: Global, reply: &Reply<RESOURCES>) -> OwnedReply<RESO
 /// All the memory that a call needs beside what the cluster itself needs.
 #[derive(Drop)]
 pub struct CallRoom {
-    pub entry: Option<BoxedCopy>,
-    pub receipt: CompactRequest,
+    pub entry: Option<BoxedRequest<RESOURCES>>,
+    pub receipt: StoredRequest<RESOURCES>,
     pub news: Option<NewsRooms>,
 }
 
@@ -143,7 +138,7 @@ impl CallRoom {
         }
         Ok(CallRoom {
             entry: boxed_copy(alloc, request)?,
-            receipt: CompactRequest::of(alloc, request)?,
+            receipt: StoredRequest::of(alloc, request)?,
             news: news_rooms(alloc, cluster, request)?,
         })
     }

@@ -4,11 +4,10 @@ ghost use Rattle.cap_model.specs.Sight.{sight_of};
 ghost use Rattle.cap_base.specs.Limits.{resources};
 ghost use Rattle.cap_copy.specs.Sources.{sight_of_copy};
 ghost use Rattle.cap_model.specs.Admission.{reason_of};
-ghost use Rattle.cap_shared.specs.Calls.{CallsOk, CallMisses, CommitAnswers, CommitsBack, CopyIs, TellsFull, TellsFullFirst};
+ghost use Rattle.cap_shared.specs.Calls.{CallsOk, IsCalledOn, CallMisses, CommitAnswers, CommitsBack, CopyIs, TellsFull, TellsFullFirst};
 
 use crate::call_room::{CallRoom, is_no_memory, make_call, own_copies};
 use crate::entry::{Entry, Receipt};
-use crate::event::{CompactEvent, EventForm};
 use crate::faults::{CommitFault, Fault};
 use crate::making::make_proposed;
 use crate::marks::{
@@ -16,13 +15,12 @@ use crate::marks::{
     note_sealed_commit,
 };
 use crate::passes::{Pass, Word};
-use crate::request::CompactRequest;
 use crate::seat::{Naming, Seat};
 use bumpalo::Bump;
 use cap_base::RESOURCES;
 use cap_commit::Cluster;
 use cap_copy::ClusterCopy;
-use cap_model::{Event, NoMemory, OwnedReply, Proposal, Request, Verdict};
+use cap_model::{Event, NoMemory, OwnedReply, Proposal, Request, StoredRequest, Verdict};
 use cap_sights::copy_in;
 use std::alloc::Global;
 use std::marker::{Model, PhantomData};
@@ -64,9 +62,30 @@ impl<J: Naming> Desk<J> {
         self.journal.len()
     }
 
-    /// Makes a call, with an entry and a receipt; the entry takes the lists of the request. A full journal is told first, and noted; if an
-    /// allocation fails nothing changes.
+    /// Makes a call, with an entry and a receipt, which has its reply; the entry takes the lists of the request. A full journal is told
+    /// first, and noted; if an allocation fails nothing changes.
     pub fn call(
+        &mut self,
+        alloc: Global,
+        word: &Word,
+        seat: &mut Seat<J>,
+        request: &mut Request<RESOURCES>,
+    ) -> Result<(), Fault>
+        requires word { (word.now.table_id ≡ J.table) × (0 < word.now.table_id.words) }
+        ensures answer { MatchResult result
+            (λ _. IsCalledOn self.old.cluster request.old self.new.cluster seat.old seat.new)
+            (CallMisses request.old J.limit seat.old seat.new) }
+        ensures full { IfErr result (TellsFull J.limit self.old.log) }
+        ensures back { OnErr result (request.new ≡ request.old) }
+    {
+        if self.journal.len() >= self.limit || self.answer(alloc, word, seat, request).is_err() {
+            return Err(self.miss(word, seat, request));
+        }
+        Ok(())
+    }
+
+    /// The same call with its reply in memory of its own, which is made first.
+    pub fn call_for_reply(
         &mut self,
         alloc: Global,
         word: &Word,
@@ -79,15 +98,30 @@ impl<J: Naming> Desk<J> {
         ensures full { IfErr result (TellsFull J.limit self.old.log) }
         ensures back { OnErr result (request.new ≡ request.old) }
     {
+        let Ok(room) = self.cluster.reply_room(alloc, request) else {
+            return Err(self.miss(word, seat, request));
+        };
+        self.call(alloc, word, seat, request)?;
+        match seat.receipts().last() {
+            Some(Receipt::Call { reply, .. }) => Ok(room.own(&reply.view())),
+            Some(Receipt::Commit { .. }) => unreachable!(),
+            None => unreachable!(),
+        }
+    }
+
+    /// Why a call is not made: the journal is full, which is noted, or an allocation has failed.
+    fn miss(&mut self, word: &Word, seat: &mut Seat<J>, request: &Request<RESOURCES>) -> Fault
+        requires word { (word.now.table_id ≡ J.table) × (0 < word.now.table_id.words) }
+        ensures answer { CallMisses request.now J.limit seat.old seat.new result }
+        ensures full { TellsFull J.limit self.old.log result }
+        ensures same { self.new.log ≡ self.old.log }
+    {
         if self.journal.len() >= self.limit {
             note_sealed_call(word, &mut self.pass, &self.journal, &mut seat.pass, request);
-            return Err(Fault::Sealed);
+            return Fault::Sealed;
         }
-        let Ok(reply) = self.answer(alloc, word, seat, request) else {
-            compare(word, &mut self.pass, &self.journal, &mut seat.pass);
-            return Err(Fault::NoMemory);
-        };
-        Ok(reply)
+        compare(word, &mut self.pass, &self.journal, &mut seat.pass);
+        Fault::NoMemory
     }
 
     /// Makes a call, with room in the journal.
@@ -97,10 +131,11 @@ impl<J: Naming> Desk<J> {
         word: &Word,
         seat: &mut Seat<J>,
         request: &mut Request<RESOURCES>,
-    ) -> Result<OwnedReply<RESOURCES>, NoMemory>
+    ) -> Result<(), NoMemory>
         requires word { (word.now.table_id ≡ J.table) × (0 < word.now.table_id.words) }
         requires room { length self.old.log < J.limit }
-        ensures answer { MatchResult result (CallsOk request.old seat.old seat.new)
+        ensures answer { MatchResult result
+            (λ _. IsCalledOn self.old.cluster request.old self.new.cluster seat.old seat.new)
             (λ _. seat.new ≡ seat.old) }
         ensures same { OnErr result (self.new.log ≡ self.old.log) }
         ensures back { OnErr result (request.new ≡ request.old) }
@@ -115,11 +150,11 @@ impl<J: Naming> Desk<J> {
         let copies = own_copies(alloc, room.news, &self.cluster, &answer);
         let position = next_position(&self.journal);
         let by = seat.number;
-        let event = CompactEvent::of(EventForm::Call {
+        let event = Event::Call {
             by,
-            request: CompactRequest::moved(alloc, request, room.entry),
+            request: StoredRequest::moved(alloc, request, room.entry),
             reply: copies.entry,
-        });
+        };
         enter(
             word,
             &mut self.pass,
@@ -133,7 +168,7 @@ impl<J: Naming> Desk<J> {
                 reply: copies.receipt,
             },
         );
-        Ok(copies.given)
+        Ok(())
     }
 
     /// Makes a proposal that is admissible now, with an entry and a receipt. A full journal is told first. A rejection, a full journal and
@@ -207,11 +242,11 @@ impl<J: Naming> Desk<J> {
             &mut seat.receipts,
             Entry {
                 seat: number,
-                event: made.compact(),
+                event: made.event(),
             },
             Receipt::Commit {
                 position: at,
-                event: made.compact(),
+                event: made.event(),
             },
         );
         Ok(Verdict::Done(made.event()))

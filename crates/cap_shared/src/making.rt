@@ -7,7 +7,6 @@ ghost use Rattle.cap_model.specs.Verdicts.{IsOf};
 ghost use Rattle.cap_shared.specs.Making.{event_of_made};
 
 use crate::entry::Receipt;
-use crate::event::{CompactEvent, EventForm};
 use cap_base::RESOURCES;
 use cap_commit::Cluster;
 use cap_model::{Container, Event, NoMemory, Proposal, Reservation, Verdict};
@@ -20,20 +19,6 @@ pub enum Made {
 }
 
 impl Made {
-    /// Its event, for a journal.
-    pub(crate) fn compact(&self) -> CompactEvent
-        ensures { result ≡ event_of_made self.now }
-    {
-        CompactEvent::of(match self {
-            Made::Grant(container) => EventForm::Grant {
-                container: *container,
-            },
-            Made::Reserve(reservation) => EventForm::Reserve {
-                reservation: *reservation,
-            },
-        })
-    }
-
     /// Its event.
     pub(crate) fn event(&self) -> Event<RESOURCES>
         ensures { result ≡ event_of_made self.now }

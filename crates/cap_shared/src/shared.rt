@@ -3,7 +3,7 @@ ghost use Rattle.std.specs.Prelude.{◌≡◌, ℕ, ◌<◌, ◌≤◌, [], leng
 ghost use Rattle.cap_base.specs.Limits.{resources};
 ghost use Rattle.cap_copy.specs.Snapshot.{sight_in};
 ghost use Rattle.cap_copy.specs.Sources.{sight_of_copy};
-ghost use Rattle.cap_shared.specs.Calls.{CallsOk, CallsBack, CallMisses, CommitAnswers, CommitsBack, CopyIs};
+ghost use Rattle.cap_shared.specs.Calls.{CallsOk, IsCalled, CallsBack, CallMisses, CommitAnswers, CommitsBack, CopyIs};
 ghost use Rattle.cap_shared.specs.Journal.{Replays, TagsBelow, AllHonest};
 ghost use Rattle.cap_shared.specs.Parts.{report_of};
 ghost use Rattle.cap_shared.specs.WordRule.{first_view, fresh, keeper, AllFit, times};
@@ -77,8 +77,22 @@ impl<'a, J: Naming> Drop for Hold<'a, J> {
 }
 
 impl<'a, J: Naming> Hold<'a, J> {
-    /// Makes a call, as `Shared::call`. The entry takes the lists of the request; where it is not made the request stays as it was.
+    /// Makes a call, as `Shared::call`; its reply is in the last receipt of the seat. The entry takes the lists of the request; where it
+    /// is not made the request stays as it was.
     pub fn call(
+        &mut self,
+        seat: &mut Seat<J>,
+        request: &mut Request<RESOURCES>,
+    ) -> Result<(), Fault>
+        ensures answer { MatchResult result (λ _. IsCalled request.old seat.old seat.new)
+            (CallMisses request.old J.limit seat.old seat.new) }
+        ensures back { OnErr result (request.new ≡ request.old) }
+    {
+        self.desk.call(self.alloc, self.word, seat, request)
+    }
+
+    /// The same call with its reply in memory of its own.
+    fn call_for_reply(
         &mut self,
         seat: &mut Seat<J>,
         request: &mut Request<RESOURCES>,
@@ -87,7 +101,8 @@ impl<'a, J: Naming> Hold<'a, J> {
             (CallMisses request.old J.limit seat.old seat.new) }
         ensures back { OnErr result (request.new ≡ request.old) }
     {
-        self.desk.call(self.alloc, self.word, seat, request)
+        self.desk
+            .call_for_reply(self.alloc, self.word, seat, request)
     }
 
     /// Makes a proposal if it is admissible, as `Shared::commit`.
@@ -140,7 +155,7 @@ impl<J: Naming> Shared<J> {
             (CallsBack request J.limit seat.old seat.new) }
     {
         let mut request = request;
-        let answer = self.hold(rt).call(seat, &mut request);
+        let answer = self.hold(rt).call_for_reply(seat, &mut request);
         match answer {
             Ok(reply) => Ok(reply),
             Err(Fault::Sealed) => Err(CallFault::Sealed(request)),

@@ -29,18 +29,6 @@ serves_then {a} {b} {c} {s} {t} {u} {last} {note} x y = record {
       (ap (λ (q : List Moment). (s.past ++ q) ++ (y.moments ++ note)) (append-nil x.moments) ∙ append_assoc s.past x.moments (y.moments ++ note) ∙ ap (λ (q : List Moment). s.past ++ q) (sym (append_assoc x.moments y.moments note)));
 }
 
--- a note after them
-pub serves_noted : {a b : SessionState} {s t : Sitting} (u : Sitting) (note : List Moment) → Serves a b s t [] [] → HasMore t u note → Serves a b s u [] note
-serves_noted {a} {b} {s} {t} u note x noted = record {
-  more = x.more;
-  calls = x.calls;
-  moments = x.moments;
-  continues = x.continues;
-  receipts = x.receipts;
-  seat = noted ∙ ap (λ (v : Sitting). sitting v.seat (v.past ++ note)) x.seat ∙ ap (λ (ps : List Moment). sitting s.seat ps)
-      (ap (λ (m : List Moment). (s.past ++ m) ++ note) (append-nil x.moments) ∙ append_assoc s.past x.moments note);
-}
-
 -- a session of which the same was fed and answered
 pub serves_as : {a b : SessionState} {s t : Sitting} {last : List ℕ} {note : List Moment} (c : SessionState) → Serves a b s t last note → c.fed ≡ b.fed → c.answered ≡ b.answered → c.calls ≡ b.calls → all_answers c ≡ all_answers b → Serves a c s t last note
 serves_as c x fed answered calls output = record {

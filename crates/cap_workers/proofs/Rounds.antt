@@ -1,5 +1,5 @@
 -- A round of serving, and more of them.
-use Rattle.cap_workers.proofs.Prelude.{drop-length, ◌≡◌, ℕ, List, [], ◌++◌, length, drop, Option, Some, None, refl, ap, sym, ◌∙◌, subst, inl, inr, resources, SessionState, all_answers, after_sent, FeedGives, StreamState, Request, Sent, SessionCause, continues_fed, Sitting, EndCause, Serves, IsAtRest, ServesAll, ServesToFault, IsServed, IsRound, IsSealed, IsWrittenOut, ReadsOn, GoesOn, writer_at, end_of}
+use Rattle.cap_workers.proofs.Prelude.{drop-length, ◌≡◌, ℕ, List, [], ◌++◌, length, drop, Option, Some, None, ap, sym, ◌∙◌, subst, inl, inr, resources, SessionState, all_answers, after_sent, FeedGives, Request, Sent, SessionCause, continues_fed, Sitting, EndCause, Serves, IsAtRest, ServesAll, ServesToFault, IsServed, IsRound, IsSealed, IsWrittenOut, ReadsOn, GoesOn, end_of}
 use Rattle.cap_session.specs.declared.counted.Sent.TheVariants as sents
 use Rattle.cap_session.specs.declared.session.SessionCause.TheVariants as causes
 use Rattle.cap_session.specs.declared.session.Fed.TheVariants as feds
@@ -58,17 +58,6 @@ starved_round limit old mid new s t (sents.Fault n) end x is ended = subst (λ (
 pub fed_none : (piece : List ℕ) (old new : SessionState) (c : SessionCause) → old.ended ≡ None → FeedGives piece old new (feds.Ended c) → new ≡ record old { ended = Some causes.NoMemory }
 fed_none piece old new c over (inl (was, same)) = absurd cc
 fed_none piece old new c over (inr (none, is, now)) = now
-
--- a read counts nothing at the writer
-pub read_is_no_write : (old new : SessionState) (end : Option EndCause) (w : StreamState) → ReadsOn old new end → writer_at end w ≡ w
-read_is_no_write old new None w is = refl
-read_is_no_write old new (Some ends.InputEnded) w is = refl
-read_is_no_write old new (Some ends.Quiet) w is = refl
-read_is_no_write old new (Some ends.ReadFault) w is = refl
-read_is_no_write old new (Some ends.NoMemory) w is = refl
-read_is_no_write old new (Some ends.WriteFault) w is = absurd is
-read_is_no_write old new (Some ends.Faulted) w is = absurd is
-read_is_no_write old new (Some (ends.Sealed q)) w is = absurd is
 
 -- ---- what is still to be written
 

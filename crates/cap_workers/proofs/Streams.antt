@@ -1,5 +1,5 @@
 -- What readers gave and writers took, one time after the other.
-use Rattle.cap_workers.proofs.Prelude.{◌≡◌, ◌≢◌, ℕ, ◌+◌, ◌-◌, ◌^◌, List, [], ◌++◌, Option, Some, None, refl, ap, ap₂, sym, ◌∙◌, subst, append_assoc, append-nil, length, min, arith, length-append, Appends, Consumes, StreamState, CanCount, Sent, EndCause, IsRead, IsWritten, IsLost, after_reads, reader_at, writer_at, end_of}
+use Rattle.cap_workers.proofs.Prelude.{◌≡◌, ℕ, ◌+◌, ◌-◌, ◌^◌, List, [], ◌++◌, Option, Some, None, refl, ap, ap₂, sym, ◌∙◌, subst, append_assoc, append-nil, length, min, arith, length-append, Appends, Consumes, StreamState, CanCount, Sent, EndCause, IsRead, IsWritten, IsLost, after_reads, reader_at, writer_at, end_of}
 use Rattle.cap_session.specs.declared.counted.Sent.TheVariants as sents
 use Rattle.cap_workers.specs.declared.sessions.EndCause.TheVariants as ends
 
@@ -92,16 +92,6 @@ written_then {end} {a} {b} {c} {l} {m} {n} {f} {g} {h} {out} {more} x y = record
 -- a writer that can count still can
 pub can_still_write : {a b : StreamState} {l m : Option (List ℕ)} {f g out : List ℕ} → IsWritten None a b l m f g out → CanCount a → CanCount b
 can_still_write {a} x can = subst CanCount (sym x.state) (record { failures = can.failures; quiets = can.quiets; ends = can.ends })
-
--- a cause that is not the writer's failure counts none
-pub other_cause : (cause : EndCause) (s : StreamState) → cause ≢ ends.WriteFault → writer_at (Some cause) s ≡ s
-other_cause ends.InputEnded s other = refl
-other_cause ends.Quiet s other = refl
-other_cause ends.ReadFault s other = refl
-other_cause ends.WriteFault s other = absurd (other refl)
-other_cause ends.Faulted s other = refl
-other_cause (ends.Sealed q) s other = refl
-other_cause ends.NoMemory s other = refl
 
 -- the bytes that went out are counted
 pub sum_saturates : (a b : List ℕ) (n k m : ℕ) → n ≡ min (length a) (2 ^ 64 - 1) → k ≡ length b → m ≡ min (n + k) (2 ^ 64 - 1) → m ≡ min (length (a ++ b)) (2 ^ 64 - 1)

@@ -1,228 +1,236 @@
 -- Calls that are made and answered together.
-use Rattle.cap_workers.proofs.Prelude.{◌≡◌, ℕ, ◌+◌, ◌<◌, List, [], ◌∷◌, ◌++◌, Some, None, refl, ap, ap₂, sym, ◌∙◌, subst, append_assoc, append-nil, length, take, drop, take-append-drop, take-append_seam, zero, suc, slice_index_or, arith, take-length, length-append, length-map, map-append, resources, Request, Reply, IsOfKind, kind_of, Call, MayAnswer, SpellsAnswer, OpensNext, open_requests, SessionState, OpenRequest, Continues, after_answer, with_answer, continues_none, continues_then, continues_answer, HasMore, sitting, Entry, Moment, Noted, Sitting, HaveReceipts, none_made, Serves, IsSealed, requests_of, replies_of, AreOfKind, none_asked, asked, CallsMade, IsAnsweredBy, AnsweredAll, CallsAll, Called, IsBatchMade}
+use Rattle.cap_workers.proofs.Prelude.{◌≡◌, ℕ, ◌+◌, ◌-◌, ◌<◌, ◌≤◌, List, [], ◌∷◌, ◌++◌, Some, None, refl, ap, ap₂, sym, ◌∙◌, subst, append_assoc, append-nil, length, map, take, drop, drop-append_seam, zero, suc, slice_index_or, arith, take-length, length-append, length-drop, length-map, map-append, resources, Request, Reply, IsOfKind, kind_of, Call, frame_of, frames_of, tail_bytes, IsSession, MayAnswer, SpellsAnswer, OpensNext, open_payloads, open_requests, SessionState, OpenRequest, Continues, after_answer, with_answer, continues_none, continues_then, continues_answer, HasMore, IsCalled, sitting, Moment, Entered, Noted, Sitting, Receipt, receipts_in, HaveReceipts, none_made, made, starved, Serves, IsSealed, requests_of, AreReceiptsOf, none_called, called_one, CallsMade, IsAnsweredBy, AnsweredAll, CallsAll, Called, IsBatchMade}
+use Rattle.cap_model.specs.declared.reply.ReplyWith.TheVariants as reply
+use Rattle.cap_model.specs.declared.refusal.Refusal.TheVariants as refusal
+use Rattle.cap_shared.specs.declared.entry.Receipt.TheVariants as receipt
 use Rattle.cap_shared.specs.declared.history.NotedAnswer.TheVariants as answer
 use Rattle.cap_workers.specs.declared.batches.Called.TheVariants as called
-use Rattle.cap_workers.proofs.Receipts.{has_none, receipts_then}
+use Rattle.cap_workers.proofs.Receipts.{has_none, serves_then}
 
 -- ---- calls
 
-kinds_then : {xs ys : List (Call resources)} → AreOfKind xs → AreOfKind ys → AreOfKind (xs ++ ys)
-kinds_then none_asked b = b
-kinds_then (asked {call} is a) b = asked {call = call} is (kinds_then a b)
+are_then : {cs ds : List (Call resources)} {rs ts : List Receipt} → AreReceiptsOf cs rs → AreReceiptsOf ds ts → AreReceiptsOf (cs ++ ds) (rs ++ ts)
+are_then none_called y = y
+are_then (called_one {call} found kind x) y = called_one {call = call} found kind (are_then x y)
 
 -- no call yet
-pub made_none : (t : SessionState) (first : Request resources) (s : Sitting) (replies : List (Reply resources)) → open_requests t.opens ≡ first ∷ [] → replies ≡ [] → CallsMade t t (first ∷ []) replies s s []
-made_none t first s replies opens none = record { calls = []; moments = []; receipts = none_made; kinds = none_asked; requests = opens; replies_are = none; same = refl; seat = has_none s }
+pub made_none : (t : SessionState) (first : Request resources) (s : Sitting) → open_requests t.opens ≡ first ∷ [] → CallsMade t t (first ∷ []) s s []
+made_none t first s opens = record { calls = []; receipts = []; are = none_called; requests = opens; same = refl; seat = has_none s }
+
+-- what a seat was answered beyond the receipts
+told_more : (s t u : Sitting) (receipts : List Receipt) (more : List Moment) → HasMore s t (map Entered receipts ++ []) → HasMore t u more → HasMore s u (map Entered receipts ++ more)
+told_more s t u receipts more before after =
+    after ∙ ap (λ (v : Sitting). sitting v.seat (v.past ++ more)) before ∙ ap (λ (ps : List Moment). sitting s.seat ps)
+    (ap (λ (m : List Moment). (s.past ++ m) ++ more) (append-nil (map Entered receipts)) ∙ append_assoc s.past (map Entered receipts) more)
 
 -- one more call
-pub made_more : {old mid : SessionState} {q : Request resources} {replies : List (Reply resources)} {s t : Sitting} (u : Sitting) (r : Reply resources) (moments : List Moment) → CallsMade old mid (q ∷ []) replies s t []
-    → HaveReceipts (record { request = q; reply = r } ∷ []) moments → IsOfKind (kind_of q) r → HasMore t u moments → CallsMade old mid [] (replies ++ r ∷ []) s u []
-made_more {old} {mid} {q} {replies} {s} {t} u r moments x receipts kind seat =
+pub made_more : {old mid : SessionState} {q : Request resources} {s t : Sitting} (u : Sitting) → CallsMade old mid (q ∷ []) s t [] → IsCalled q t u → CallsMade old mid [] s u []
+made_more {old} {mid} {q} {s} {t} u x (r, (found, (at, more), kind)) =
     let call : Call resources = record { request = q; reply = r } in
+    let one : List Receipt = receipt.Call at q r ∷ [] in
     record {
       calls = x.calls ++ call ∷ [];
-      moments = x.moments ++ moments;
-      receipts = receipts_then x.receipts receipts;
-      kinds = kinds_then x.kinds (asked {call = call} kind none_asked);
+      receipts = x.receipts ++ one;
+      are = are_then x.are (called_one {call = call} found kind none_called);
       requests = x.requests ∙ sym (map-append (λ (c : Call resources). c.request) x.calls (call ∷ [])) ∙ sym (append-nil (requests_of (x.calls ++ call ∷ [])));
-      replies_are = ap (λ (l : List (Reply resources)). l ++ r ∷ []) x.replies_are ∙ sym (map-append (λ (c : Call resources). c.reply) x.calls (call ∷ []));
       same = x.same;
-      seat = seat ∙ ap (λ (v : Sitting). sitting v.seat (v.past ++ moments)) x.seat ∙ ap (λ (ps : List Moment). sitting s.seat ps)
-          (ap (λ (m : List Moment). (s.past ++ m) ++ moments) (append-nil x.moments) ∙ append_assoc s.past x.moments moments ∙ ap (λ (m : List Moment). s.past ++ m) (sym (append-nil (x.moments ++ moments))));
+      seat = told_more s t u x.receipts (map Entered one) x.seat more ∙ ap (λ (ms : List Moment). sitting s.seat (s.past ++ ms)) (sym (map-append Entered x.receipts one) ∙ sym (append-nil (map Entered (x.receipts ++ one))));
     }
 
 -- the next request that was read ahead is open
-pub made_open : {old mid : SessionState} {replies : List (Reply resources)} {s t : Sitting} (new : SessionState) (q : Request resources) (now : List (Reply resources)) → CallsMade old mid [] replies s t [] → OpensNext mid new (Some q) → now ≡ replies → CallsMade old new (q ∷ []) now s t []
-made_open {old} {mid} {replies} {s} {t} new q now x (o, same, is, opens) kept = record {
+pub made_open : {old mid : SessionState} {s t : Sitting} (new : SessionState) (q : Request resources) → CallsMade old mid [] s t [] → OpensNext mid new (Some q) → CallsMade old new (q ∷ []) s t []
+made_open {old} {mid} new q x (o, same, is, opens) = record {
   calls = x.calls;
-  moments = x.moments;
   receipts = x.receipts;
-  kinds = x.kinds;
+  are = x.are;
   requests = ap (λ (v : SessionState). open_requests v.opens) opens ∙ map-append (λ (p : OpenRequest). p.request) mid.opens (o ∷ []) ∙ ap₂ (λ (l : List (Request resources)) (p : Request resources). l ++ p ∷ []) (x.requests ∙ append-nil (requests_of x.calls)) same;
-  replies_are = kept ∙ x.replies_are;
   same = opens ∙ ap (λ (v : SessionState). record v { opens = mid.opens ++ o ∷ [] }) x.same ∙ ap (λ (l : List OpenRequest). record old { opens = l }) (sym (ap (λ (v : SessionState). v.opens) opens));
   seat = x.seat;
 }
 
--- the journal was full for one more
-pub made_noted : {old new : SessionState} {q : Request resources} {replies : List (Reply resources)} {s t : Sitting} (u : Sitting) (back : Request resources) (note : List Moment) → CallsMade old new (q ∷ []) replies s t [] → q ≡ back → HasMore t u note → CallsMade old new (back ∷ []) replies s u note
-made_noted {old} {new} {q} {replies} {s} {t} u back note x is seat = record {
-  calls = x.calls;
-  moments = x.moments;
-  receipts = x.receipts;
-  kinds = x.kinds;
-  requests = x.requests ∙ ap (λ (p : Request resources). requests_of x.calls ++ p ∷ []) is;
-  replies_are = x.replies_are;
-  same = x.same;
-  seat = seat ∙ ap (λ (v : Sitting). sitting v.seat (v.past ++ note)) x.seat ∙ ap (λ (ps : List Moment). sitting s.seat ps) (ap (λ (m : List Moment). (s.past ++ m) ++ note) (append-nil x.moments) ∙ append_assoc s.past x.moments note);
-}
+frames_count : (ps : List (List ℕ)) → length ps ≤ length (frames_of ps)
+frames_count [] = omega arith
+frames_count (p ∷ ps) = omega (arith, frames_count ps, length-append (frame_of p) (frames_of ps))
+
+-- a session has at most as many open requests as it was fed bytes
+pub opens_fit : (s : SessionState) → IsSession s → length s.opens ≤ length s.fed
+opens_fit s is =
+    let (later, tail, stream) = is.stream in
+    let payloads = s.answered ++ (open_payloads s.opens ++ later) in
+    omega (
+      arith,
+      ap (λ (x : List ℕ). length x) stream.whole,
+      length-append (frames_of payloads) (tail_bytes tail),
+      frames_count payloads,
+      length-append s.answered (open_payloads s.opens ++ later),
+      length-append (open_payloads s.opens) later,
+      length-map s.opens (λ (o : OpenRequest). o.payload),
+    )
+
+-- ---- receipts
+
+receipts_in-append : (xs ys : List Moment) → receipts_in (xs ++ ys) ≡ receipts_in xs ++ receipts_in ys
+receipts_in-append [] ys = refl
+receipts_in-append (Entered r ∷ xs) ys = ap (λ (rs : List Receipt). r ∷ rs) (receipts_in-append xs ys)
+receipts_in-append (Noted es a ∷ xs) ys = receipts_in-append xs ys
+
+receipts_in-entered : (rs : List Receipt) → receipts_in (map Entered rs) ≡ rs
+receipts_in-entered [] = refl
+receipts_in-entered (r ∷ rs) = ap (λ (qs : List Receipt). r ∷ qs) (receipts_in-entered rs)
+
+-- the last receipts of the seat are those of the calls
+receipts_last : (s t : Sitting) (rs : List Receipt) (note : List Moment) → HasMore s t (map Entered rs ++ note) → receipts_in note ≡ [] → drop (length (receipts_in s.past)) (receipts_in t.past) ≡ rs
+receipts_last s t rs note more none =
+    ap (λ (v : Sitting). drop (length (receipts_in s.past)) (receipts_in v.past)) more
+    ∙ ap (λ (l : List Receipt). drop (length (receipts_in s.past)) l) (receipts_in-append s.past (map Entered rs ++ note))
+    ∙ drop-append_seam (receipts_in s.past) (receipts_in (map Entered rs ++ note))
+    ∙ receipts_in-append (map Entered rs) note ∙ ap₂ (λ (l m : List Receipt). l ++ m) (receipts_in-entered rs) none ∙ append-nil rs
+
+receipts_grow : (s t : Sitting) (more : List Moment) → HasMore s t more → length (receipts_in s.past) ≤ length (receipts_in t.past)
+receipts_grow s t more is = omega (arith, ap (λ (v : Sitting). length (receipts_in v.past)) is, ap (λ (l : List Receipt). length l) (receipts_in-append s.past more), length-append (receipts_in s.past) (receipts_in more))
+
+-- a seat loses no receipts
+pub receipts_stay : (limit : ℕ) (old new : SessionState) (s t : Sitting) (outcome : Called) → CallsAll limit old new s t outcome → length (receipts_in s.past) ≤ length (receipts_in t.past)
+receipts_stay limit old new s t called.Made x = receipts_grow s t _ x.seat
+receipts_stay limit old new s t called.Starved (q, x) = receipts_grow s t _ x.seat
+receipts_stay limit old new s t (called.Sealed back) (entries, full, x) = receipts_grow s t _ x.seat
+
+pub answered_by : {old new : SessionState} {left : List (Request resources)} {s t : Sitting} {note : List Moment} (x : CallsMade old new left s t note) (rs : List Receipt) → rs ≡ x.receipts → IsAnsweredBy new.opens rs x.calls
+answered_by {left = left} x rs is = record { left = left; are = rw is x.are; requests = x.requests }
+
+-- those of the seat that come after so many earlier ones
+pub newest : (s t : Sitting) (earlier all : List Receipt) → earlier ≡ receipts_in s.past → all ≡ receipts_in t.past → take (length all - length earlier) (drop (length earlier) all) ≡ drop (length (receipts_in s.past)) (receipts_in t.past)
+newest s t earlier all was is =
+    let rest = drop (length earlier) all in
+    ap (λ (n : ℕ). take n rest) (sym (length-drop (length earlier) all)) ∙ take-length rest ∙ ap₂ (λ (xs ys : List Receipt). drop (length xs) ys) was is
+
+-- what became of the calls says whose these are
+pub answered_so : (limit : ℕ) (old new : SessionState) (s t : Sitting) (outcome : Called) (rs : List Receipt) → rs ≡ drop (length (receipts_in s.past)) (receipts_in t.past) → CallsAll limit old new s t outcome → (calls : List (Call resources)) × IsAnsweredBy new.opens rs calls
+answered_so limit old new s t called.Made rs are x = (x.calls, answered_by x rs (are ∙ receipts_last s t x.receipts [] x.seat refl))
+answered_so limit old new s t called.Starved rs are (q, x) = (x.calls, answered_by x rs (are ∙ receipts_last s t x.receipts [] x.seat refl))
+answered_so limit old new s t (called.Sealed back) rs are (entries, full, x) = (x.calls, answered_by x rs (are ∙ receipts_last s t x.receipts (Noted entries (answer.SealedCall back) ∷ []) x.seat refl))
 
 -- ---- answers
 
--- the call at an index
-pub record OneAt (calls : List (Call resources)) (i : ℕ) : Type 0 where
+-- the call at an index, with its receipt
+pub record OneAt (calls : List (Call resources)) (receipts : List Receipt) (i : ℕ) : Type 0 where
   pub call : Call resources
+  pub at : ℕ
   pub later : List (Call resources)
   pub whole : calls ≡ take i calls ++ call ∷ later
   pub next : take (i + 1) calls ≡ take i calls ++ call ∷ []
-  pub reply : (d : Reply resources) → slice_index_or (replies_of calls) i d ≡ call.reply
+  pub receipt_is : (d : Receipt) → slice_index_or receipts i d ≡ receipt.Call at call.request call.reply
+  pub kind : IsOfKind (kind_of call.request) call.reply
 
-one_at : (calls : List (Call resources)) (i : ℕ) → i < length calls → OneAt calls i
-one_at [] i below = absurd (omega (arith, below))
-one_at (c ∷ calls) zero below = record { call = c; later = calls; whole = refl; next = refl; reply = λ d. refl }
-one_at (c ∷ calls) (suc i) below =
-    let x = one_at calls i (omega (arith, below)) in
+one_at : {calls : List (Call resources)} {receipts : List Receipt} (i : ℕ) → AreReceiptsOf calls receipts → i < length receipts → OneAt calls receipts i
+one_at i none_called below = absurd (omega (arith, below))
+one_at zero (called_one {call} {calls} {receipts} {at} found kind are) below = record { call = call; at = at; later = calls; whole = refl; next = refl; receipt_is = λ d. refl; kind = kind }
+one_at (suc i) (called_one {call} {calls} {receipts} {at} found kind are) below =
+    let x = one_at i are (omega (arith, below)) in
     let same : suc i + 1 ≡ suc (i + 1) = omega (arith) in
-    record { call = x.call; later = x.later; whole = ap (λ (l : List (Call resources)). c ∷ l) x.whole; next = ap (λ (n : ℕ). take n (c ∷ calls)) same ∙ ap (λ (l : List (Call resources)). c ∷ l) x.next; reply = x.reply }
+    record {
+      call = x.call;
+      at = x.at;
+      later = x.later;
+      whole = ap (λ (l : List (Call resources)). call ∷ l) x.whole;
+      next = ap (λ (n : ℕ). take n (call ∷ calls)) same ∙ ap (λ (l : List (Call resources)). call ∷ l) x.next;
+      receipt_is = x.receipt_is;
+      kind = x.kind;
+    }
 
-kind_at : (xs : List (Call resources)) (c : Call resources) (ys : List (Call resources)) → AreOfKind (xs ++ c ∷ ys) → IsOfKind (kind_of c.request) c.reply
-kind_at [] c ys (asked is a) = is
-kind_at (x ∷ xs) c ys (asked is a) = kind_at xs c ys a
+as_many : {calls : List (Call resources)} {receipts : List Receipt} → AreReceiptsOf calls receipts → length receipts ≡ length calls
+as_many none_called = refl
+as_many (called_one found kind are) = ap suc (as_many are)
 
 -- what follows the same beginning is the same
 after_same : (xs ys zs : List (Request resources)) → xs ++ ys ≡ xs ++ zs → ys ≡ zs
 after_same [] ys zs is = is
 after_same (x ∷ xs) ys zs is = let tails : xs ++ ys ≡ xs ++ zs = cc in after_same xs ys zs tails
 
--- the first that is not answered yet is the next call's
-pub record IsNext (opens : List OpenRequest) (call : Call resources) : Type 0 where
+-- the first that is not answered yet is this request
+pub record IsNext (opens : List OpenRequest) (request : Request resources) : Type 0 where
   pub first : OpenRequest
   pub later : List OpenRequest
   pub opens_are : opens ≡ first ∷ later
-  pub request : first.request ≡ call.request
+  pub is : first.request ≡ request
 
-next_is : (opens : List OpenRequest) (call : Call resources) (rest : List (Request resources)) → open_requests opens ≡ call.request ∷ rest → IsNext opens call
-next_is [] call rest is = absurd cc
-next_is (o ∷ opens) call rest is = record { first = o; later = opens; opens_are = refl; request = cc }
+pub next_is : (opens : List OpenRequest) (request : Request resources) (rest : List (Request resources)) → open_requests opens ≡ request ∷ rest → IsNext opens request
+next_is [] request rest is = absurd cc
+next_is (o ∷ opens) request rest is = record { first = o; later = opens; opens_are = refl; is = cc }
+
+-- a reply of its kind may answer it
+pub may_answer : (opens : List OpenRequest) (request : Request resources) (r : Reply resources) → IsNext opens request → IsOfKind (kind_of request) r → MayAnswer opens r
+may_answer opens request r x kind = subst (λ (o : List OpenRequest). MayAnswer o r) (sym x.opens_are) (rw x.is kind)
 
 -- where the first calls were answered, the next one can be
-pub record CanGoOn (old mid : SessionState) (calls : List (Call resources)) (i : ℕ) : Type 0 where
-  pub at : OneAt calls i
-  pub next : IsNext mid.opens at.call
-  pub kind : IsOfKind (kind_of at.call.request) at.call.reply
+pub record CanGoOn (mid : SessionState) (calls : List (Call resources)) (receipts : List Receipt) (i : ℕ) : Type 0 where
+  pub at : OneAt calls receipts i
+  pub next : IsNext mid.opens at.call.request
 
-pub can_go_on : (old mid : SessionState) (replies : List (Reply resources)) (calls : List (Call resources)) (i : ℕ) → IsAnsweredBy old.opens replies calls → AnsweredAll old mid (take i calls) → i < length calls → CanGoOn old mid calls i
-can_go_on old mid replies calls i by x below =
-    let at = one_at calls i below in
+pub can_go_on : (old mid : SessionState) (receipts : List Receipt) (calls : List (Call resources)) (i : ℕ) → IsAnsweredBy old.opens receipts calls → AnsweredAll old mid (take i calls) → i < length receipts → CanGoOn mid calls receipts i
+can_go_on old mid receipts calls i by x below =
+    let at = one_at i by.are below in
     let done = take i calls in
     let split : requests_of calls ≡ requests_of done ++ (at.call.request ∷ requests_of at.later) = ap requests_of at.whole ∙ map-append (λ (c : Call resources). c.request) done (at.call ∷ at.later) in
     let same : requests_of done ++ open_requests mid.opens ≡ requests_of done ++ (at.call.request ∷ (requests_of at.later ++ by.left)) =
     sym x.left ∙ by.requests ∙ ap (λ (l : List (Request resources)). l ++ by.left) split ∙ append_assoc (requests_of done) (at.call.request ∷ requests_of at.later) by.left in
-    record {
-      at = at;
-      next = next_is mid.opens at.call (requests_of at.later ++ by.left) (after_same (requests_of done) (open_requests mid.opens) (at.call.request ∷ (requests_of at.later ++ by.left)) same);
-      kind = kind_at done at.call at.later (subst AreOfKind at.whole by.kinds);
-    }
-
-pub length_of : (calls : List (Call resources)) → length (replies_of calls) ≡ length calls
-length_of calls = length-map calls (λ (c : Call resources). c.reply)
-
-pub below_calls : (replies : List (Reply resources)) (calls : List (Call resources)) (i : ℕ) → replies ≡ replies_of calls → i < length replies → i < length calls
-below_calls replies calls i is below = omega (arith, ap (λ (l : List (Reply resources)). length l) is, length_of calls, below)
-
--- the reply at an index may answer the first request
-pub may_answer_next : (old mid : SessionState) (calls : List (Call resources)) (i : ℕ) (r : Reply resources) → (x : CanGoOn old mid calls i) → r ≡ x.at.call.reply → MayAnswer mid.opens r
-may_answer_next old mid calls i r x is =
-    subst (λ (o : List OpenRequest). MayAnswer o r) (sym x.next.opens_are) (rw (x.next.request, is) x.kind)
+    record { at = at; next = next_is mid.opens at.call.request (requests_of at.later ++ by.left) (after_same (requests_of done) (open_requests mid.opens) (at.call.request ∷ (requests_of at.later ++ by.left)) same) }
 
 pub answered_none : (t : SessionState) → AnsweredAll t t []
 answered_none t = record { continues = continues_none t; left = refl; ended_same = refl; fed_same = refl; sent_same = refl }
 
--- one more was answered
-pub answered_more : (old mid new : SessionState) (calls : List (Call resources)) (i : ℕ) (r : Reply resources) → AnsweredAll old mid (take i calls) → (x : CanGoOn old mid calls i) → r ≡ x.at.call.reply → new ≡ after_answer mid r → SpellsAnswer mid.opens r → AnsweredAll old new (take (i + 1) calls)
-answered_more old mid new calls i r done x is now spells =
-    let o = x.next.first in
-    let call : Call resources = record { request = o.request; reply = r } in
-    let same : call ≡ x.at.call = ap₂ (λ (q : Request resources) (p : Reply resources). record { request = q; reply = p }) x.next.request is in
-    let then : new ≡ with_answer mid (o ∷ x.next.later) r = now ∙ ap (λ (l : List OpenRequest). with_answer mid l r) x.next.opens_are in
-    let spelled : SpellsAnswer (o ∷ []) r = subst (λ (l : List OpenRequest). SpellsAnswer l r) x.next.opens_are spells in
-    let more : take (i + 1) calls ≡ take i calls ++ call ∷ [] = x.at.next ∙ ap (λ (c : Call resources). take i calls ++ c ∷ []) (sym same) in
-    subst (λ (l : List (Call resources)). AnsweredAll old new l) (sym more) (record {
-      continues = continues_then done.continues (continues_answer mid new o x.next.later r spelled then);
-      left = done.left ∙ ap (λ (l : List OpenRequest). requests_of (take i calls) ++ open_requests l) x.next.opens_are ∙ sym (append_assoc (requests_of (take i calls)) (o.request ∷ []) (open_requests x.next.later))
-          ∙ ap₂ (λ (l m : List (Request resources)). l ++ m) (sym (map-append (λ (c : Call resources). c.request) (take i calls) (call ∷ []))) (ap (λ (t : SessionState). open_requests t.opens) (sym then));
-      ended_same = ap (λ (t : SessionState). t.ended) then ∙ done.ended_same;
-      fed_same = ap (λ (t : SessionState). t.fed) then ∙ done.fed_same;
-      sent_same = ap (λ (t : SessionState). t.sent) then ∙ done.sent_same;
+-- the first that is open was answered
+one_answered : (mid new : SessionState) (call : Call resources) (x : IsNext mid.opens call.request) → new ≡ after_answer mid call.reply → SpellsAnswer mid.opens call.reply → AnsweredAll mid new (call ∷ [])
+one_answered mid new call x now spells =
+    let then : new ≡ with_answer mid (x.first ∷ x.later) call.reply = now ∙ ap (λ (l : List OpenRequest). with_answer mid l call.reply) x.opens_are in
+    let spelled : SpellsAnswer (x.first ∷ []) call.reply = subst (λ (l : List OpenRequest). SpellsAnswer l call.reply) x.opens_are spells in
+    subst (λ (q : Request resources). AnsweredAll mid new (record { request = q; reply = call.reply } ∷ [])) x.is (record {
+      continues = continues_answer mid new x.first x.later call.reply spelled then;
+      left = ap open_requests x.opens_are ∙ ap (λ (t : SessionState). x.first.request ∷ open_requests t.opens) (sym then);
+      ended_same = ap (λ (t : SessionState). t.ended) then;
+      fed_same = ap (λ (t : SessionState). t.fed) then;
+      sent_same = ap (λ (t : SessionState). t.sent) then;
     })
 
+answered_then : (old mid new : SessionState) (xs ys : List (Call resources)) → AnsweredAll old mid xs → AnsweredAll mid new ys → AnsweredAll old new (xs ++ ys)
+answered_then old mid new xs ys x y = record {
+  continues = continues_then x.continues y.continues;
+  left = x.left ∙ ap (λ (l : List (Request resources)). requests_of xs ++ l) y.left ∙ sym (append_assoc (requests_of xs) (requests_of ys) (open_requests new.opens)) ∙ ap (λ (l : List (Request resources)). l ++ open_requests new.opens) (sym (map-append (λ (c : Call resources). c.request) xs ys));
+  ended_same = y.ended_same ∙ x.ended_same;
+  fed_same = y.fed_same ∙ x.fed_same;
+  sent_same = y.sent_same ∙ x.sent_same;
+}
+
+-- one more was answered
+pub answered_more : (old mid new : SessionState) (receipts : List Receipt) (calls : List (Call resources)) (i : ℕ) (r : Reply resources) → AnsweredAll old mid (take i calls) → (x : CanGoOn mid calls receipts i) → r ≡ x.at.call.reply → new ≡ after_answer mid r → SpellsAnswer mid.opens r → AnsweredAll old new (take (i + 1) calls)
+answered_more old mid new receipts calls i r done x is now spells =
+    subst (λ (l : List (Call resources)). AnsweredAll old new l) (sym x.at.next)
+    (answered_then old mid new (take i calls) (x.at.call ∷ []) done (one_answered mid new x.at.call x.next (now ∙ ap (λ (p : Reply resources). after_answer mid p) is) (subst (λ (p : Reply resources). SpellsAnswer mid.opens p) is spells)))
+
 -- all of them were
-pub answered_whole : (old new : SessionState) (replies : List (Reply resources)) (calls : List (Call resources)) (i : ℕ) → AnsweredAll old new (take i calls) → replies ≡ replies_of calls → i ≡ length replies → AnsweredAll old new calls
-answered_whole old new replies calls i done are end =
-    let all : i ≡ length calls = omega (arith, end, ap (λ (l : List (Reply resources)). length l) are, length_of calls) in
-    subst (λ (l : List (Call resources)). AnsweredAll old new l) (ap (λ (n : ℕ). take n calls) all ∙ take-length calls) done
+pub answered_whole : (old new : SessionState) (receipts : List Receipt) (calls : List (Call resources)) (i : ℕ) → AnsweredAll old new (take i calls) → AreReceiptsOf calls receipts → i ≡ length receipts → AnsweredAll old new calls
+answered_whole old new receipts calls i done are end =
+    subst (λ (l : List (Call resources)). AnsweredAll old new l) (ap (λ (n : ℕ). take n calls) (end ∙ as_many are) ∙ take-length calls) done
 
 -- ---- both together
 
--- the calls answer the first open requests
-pub answered_by : {old new : SessionState} {left : List (Request resources)} {replies : List (Reply resources)} {s t : Sitting} {note : List Moment} (x : CallsMade old new left replies s t note) → IsAnsweredBy new.opens replies x.calls
-answered_by {old} {new} {left} x = record { left = left; kinds = x.kinds; requests = x.requests; replies_are = x.replies_are }
-
-kinds_taken : (calls : List (Call resources)) (n : ℕ) → AreOfKind calls → AreOfKind (take n calls)
-kinds_taken [] zero is = is
-kinds_taken [] (suc n) is = is
-kinds_taken (c ∷ calls) zero is = none_asked
-kinds_taken (c ∷ calls) (suc n) (asked is more) = asked {call = c} is (kinds_taken calls n more)
-
--- and so do those but the last
-pub answered_but_last : (opens : List OpenRequest) (replies : List (Reply resources)) (r : Reply resources) (calls : List (Call resources)) → IsAnsweredBy opens (replies ++ r ∷ []) calls → IsAnsweredBy opens replies (take (length replies) calls)
-answered_but_last opens replies r calls x =
-    let n = length replies in
-    record {
-      left = requests_of (drop n calls) ++ x.left;
-      kinds = kinds_taken calls n x.kinds;
-      requests = x.requests ∙ ap (λ (l : List (Call resources)). requests_of l ++ x.left) (sym (take-append-drop n calls)) ∙ ap (λ (l : List (Request resources)). l ++ x.left) (map-append (λ (c : Call resources). c.request) (take n calls) (drop n calls)) ∙ append_assoc (requests_of (take n calls)) (requests_of (drop n calls)) x.left;
-      replies_are = sym (take-append_seam replies (r ∷ [])) ∙ ap (λ (l : List (Reply resources)). take n l) x.replies_are ∙ sym (map-take n calls);
-    }
-  where
-    map-take : (n : ℕ) (cs : List (Call resources)) → replies_of (take n cs) ≡ take n (replies_of cs)
-    map-take zero [] = refl
-    map-take zero (c ∷ cs) = refl
-    map-take (suc n) [] = refl
-    map-take (suc n) (c ∷ cs) = ap (λ (l : List (Reply resources)). c.reply ∷ l) (map-take n cs)
-
--- what became of the calls says which replies answer the first open requests
-pub answered_so : (limit : ℕ) (old new : SessionState) (replies : List (Reply resources)) (s t : Sitting) (outcome : Called) → CallsAll limit old new replies s t outcome → (calls : List (Call resources)) × IsAnsweredBy new.opens replies calls
-answered_so limit old new replies s t (called.Made r) x = (take (length replies) x.calls, answered_but_last new.opens replies r x.calls (answered_by x))
-answered_so limit old new replies s t (called.Sealed back) (entries, full, x) = (x.calls, answered_by x)
-
--- all but the last were answered by the replies that were kept
-pub but_last : {old mid : SessionState} {s t : Sitting} (replies kept : List (Reply resources)) (r : Reply resources) (now : SessionState) (x : CallsMade old mid [] (replies ++ r ∷ []) s t []) → kept ≡ replies → ((calls : List (Call resources)) → IsAnsweredBy mid.opens kept calls → AnsweredAll mid now calls) → AnsweredAll mid now (take (length replies) x.calls)
-but_last {old} {mid} replies kept r now x same answered =
-    answered (take (length replies) x.calls) (subst (λ (rs : List (Reply resources)). IsAnsweredBy mid.opens rs (take (length replies) x.calls)) (sym same) (answered_but_last mid.opens replies r x.calls (answered_by x)))
-
--- where all but the last were answered, the last reply can answer
-pub last_is : {old mid : SessionState} {s t : Sitting} (replies : List (Reply resources)) (r : Reply resources) (now : SessionState) (x : CallsMade old mid [] (replies ++ r ∷ []) s t []) → AnsweredAll mid now (take (length replies) x.calls) → (y : CanGoOn mid now x.calls (length replies)) × (r ≡ y.at.call.reply)
-last_is {old} {mid} replies r now x done =
-    let n = length replies in
-    let below : n < length x.calls = below_calls (replies ++ r ∷ []) x.calls n x.replies_are (omega (arith, length-append replies (r ∷ []))) in
-    let y = can_go_on mid now (replies ++ r ∷ []) x.calls n (answered_by x) done below in
-    (y, sym (at_end replies r) ∙ ap (λ (l : List (Reply resources)). slice_index_or l n r) x.replies_are ∙ y.at.reply r)
-  where
-    at_end : (rs : List (Reply resources)) (r : Reply resources) → slice_index_or (rs ++ r ∷ []) (length rs) r ≡ r
-    at_end [] r = refl
-    at_end (q ∷ rs) r = at_end rs r
-
--- and once it has, all were answered
-pub last_answered : {old mid : SessionState} {s t : Sitting} (replies : List (Reply resources)) (r : Reply resources) (now new : SessionState) (x : CallsMade old mid [] (replies ++ r ∷ []) s t []) → AnsweredAll mid now (take (length replies) x.calls) → new ≡ after_answer now r → SpellsAnswer now.opens r → AnsweredAll mid new x.calls
-last_answered {old} {mid} replies r now new x done is spells =
-    let y = last_is replies r now x done in
-    let n = length replies in
-    answered_whole mid new (replies ++ r ∷ []) x.calls (n + 1) (answered_more mid now new x.calls n r done y.0 y.1 is spells) x.replies_are (sym (length-append replies (r ∷ [])))
+has_receipts : {calls : List (Call resources)} {receipts : List Receipt} → AreReceiptsOf calls receipts → HaveReceipts calls (map Entered receipts)
+has_receipts none_called = none_made
+has_receipts (called_one {call} found kind are) = made {call = call} found (has_receipts are)
 
 -- what is open after both
-pub left_same : {old mid : SessionState} {left : List (Request resources)} {replies : List (Reply resources)} {s t : Sitting} {note : List Moment} (new : SessionState) (x : CallsMade old mid left replies s t note) → AnsweredAll mid new x.calls → open_requests new.opens ≡ left
-left_same {old} {mid} {left} new x done = after_same (requests_of x.calls) (open_requests new.opens) left (sym done.left ∙ x.requests)
+pub left_same : {old mid : SessionState} {left : List (Request resources)} {s t : Sitting} {note : List Moment} (new : SessionState) (x : CallsMade old mid left s t note) → AnsweredAll mid new x.calls → open_requests new.opens ≡ left
+left_same {left = left} new x done = after_same (requests_of x.calls) (open_requests new.opens) left (sym done.left ∙ x.requests)
 
 -- opening requests changes nothing that was fed and answered
-pub serves_batch : {old mid : SessionState} {left : List (Request resources)} {replies : List (Reply resources)} {s t : Sitting} {note : List Moment} (session new : SessionState) (x : CallsMade old mid left replies s t note) → old ≡ session → AnsweredAll mid new x.calls → Serves session new s t [] note
+serves_batch : {old mid : SessionState} {left : List (Request resources)} {s t : Sitting} {note : List Moment} (session new : SessionState) (x : CallsMade old mid left s t note) → old ≡ session → AnsweredAll mid new x.calls → Serves session new s t [] note
 serves_batch {old} {mid} session new x same done = record {
   more = [];
   calls = x.calls;
-  moments = x.moments;
+  moments = map Entered x.receipts;
   continues = subst (λ (v : SessionState). Continues v new [] x.calls []) same
       (subst (λ (v : SessionState). Continues v new [] x.calls [] → Continues old new [] x.calls []) (sym x.same) (λ c. record { payloads = c.payloads; frames = c.frames; fed = c.fed; answered = c.answered; calls = c.calls; answers = c.answers; output = c.output }) done.continues);
-  receipts = x.receipts;
+  receipts = has_receipts x.are;
   seat = x.seat;
 }
 
@@ -230,20 +238,45 @@ pub no_requests : (opens : List OpenRequest) → open_requests opens ≡ [] → 
 no_requests [] is = refl
 no_requests (o ∷ opens) is = absurd cc
 
-ended_as : {old mid : SessionState} {left : List (Request resources)} {replies : List (Reply resources)} {s t : Sitting} {note : List Moment} (session new : SessionState) (x : CallsMade old mid left replies s t note) → old ≡ session → session.ended ≡ None → AnsweredAll mid new x.calls → new.ended ≡ None
-ended_as session new x same over done = done.ended_same ∙ ap (λ (v : SessionState). v.ended) x.same ∙ ap (λ (v : SessionState). v.ended) same ∙ over
+-- after both the session goes on, and was fed and sent nothing
+pub record IsAfter (session new : SessionState) : Type 0 where
+  pub goes_on : new.ended ≡ None
+  pub fed : new.fed ≡ session.fed
+  pub sent : new.sent ≡ session.sent
 
--- all of them were called and answered
-pub made_batch : {old mid : SessionState} {replies : List (Reply resources)} {s t : Sitting} (limit : ℕ) (session new : SessionState) (x : CallsMade old mid [] replies s t []) → old ≡ session → session.ended ≡ None → AnsweredAll mid new x.calls → IsBatchMade limit session new s t None
-made_batch limit session new x same over done = (serves_batch session new x same done, no_requests new.opens (left_same new x done), ended_as session new x same over done)
-
--- the request that was not called is open
-pub sealed_batch : {old mid : SessionState} {replies : List (Reply resources)} {s t : Sitting} (limit : ℕ) (session new : SessionState) (back : Request resources) (entries : List Entry) (x : CallsMade old mid (back ∷ []) replies s t (Noted entries (answer.SealedCall back) ∷ [])) → length entries ≡ limit → old ≡ session → session.ended ≡ None → AnsweredAll mid new x.calls
-    → IsSealed limit back session new s t
-sealed_batch limit session new back entries x full same over done = record {
-  entries = entries;
-  full = full;
-  serves = serves_batch session new x same done;
-  waits = left_same new x done;
-  goes_on = ended_as session new x same over done;
+pub after_batch : {old mid : SessionState} {left : List (Request resources)} {s t : Sitting} {note : List Moment} (session new : SessionState) (x : CallsMade old mid left s t note) → old ≡ session → session.ended ≡ None → AnsweredAll mid new x.calls → IsAfter session new
+after_batch session new x same over done = record {
+  goes_on = done.ended_same ∙ ap (λ (v : SessionState). v.ended) x.same ∙ ap (λ (v : SessionState). v.ended) same ∙ over;
+  fed = done.fed_same ∙ ap (λ (v : SessionState). v.fed) x.same ∙ ap (λ (v : SessionState). v.fed) same;
+  sent = done.sent_same ∙ ap (λ (v : SessionState). v.sent) x.same ∙ ap (λ (v : SessionState). v.sent) same;
 }
+
+-- the calls that were made were answered, and this is left
+abbrev pub LeavesOpen : ℕ → SessionState → SessionState → Sitting → Sitting → Called → Type 0
+LeavesOpen limit session now s t called.Made = IsBatchMade limit session now s t None × IsAfter session now
+LeavesOpen limit session now s t called.Starved = (q : Request resources) × Serves session now s t [] [] × (open_requests now.opens ≡ q ∷ []) × IsAfter session now
+LeavesOpen limit session now s t (called.Sealed back) = IsSealed limit back session now s t × IsAfter session now
+
+pub leaves_open : (limit : ℕ) (session old mid now : SessionState) (s t : Sitting) (outcome : Called) (rs : List Receipt) → rs ≡ drop (length (receipts_in s.past)) (receipts_in t.past) → CallsAll limit old mid s t outcome → old ≡ session → session.ended ≡ None → ((calls : List (Call resources)) → IsAnsweredBy mid.opens rs calls → AnsweredAll mid now calls) → LeavesOpen limit session now s t outcome
+leaves_open limit session old mid now s t called.Made rs are x same over answered =
+    let done = answered x.calls (answered_by x rs (are ∙ receipts_last s t x.receipts [] x.seat refl)) in
+    let after = after_batch session now x same over done in
+    ((serves_batch session now x same done, no_requests now.opens (left_same now x done), after.goes_on), after)
+leaves_open limit session old mid now s t called.Starved rs are (q, x) same over answered =
+    let done = answered x.calls (answered_by x rs (are ∙ receipts_last s t x.receipts [] x.seat refl)) in
+    (q, serves_batch session now x same done, left_same now x done, after_batch session now x same over done)
+leaves_open limit session old mid now s t (called.Sealed back) rs are (entries, full, x) same over answered =
+    let done = answered x.calls (answered_by x rs (are ∙ receipts_last s t x.receipts (Noted entries (answer.SealedCall back) ∷ []) x.seat refl)) in
+    let after = after_batch session now x same over done in
+    (record { entries = entries; full = full; serves = serves_batch session now x same done; waits = left_same now x done; goes_on = after.goes_on }, after)
+
+abbrev no_memory : Reply resources
+no_memory = reply.Refused refusal.NoMemory
+
+-- and the one that found no memory is answered so
+pub starved_batch : (limit : ℕ) (session now new : SessionState) (s t : Sitting) → LeavesOpen limit session now s t called.Starved → new ≡ after_answer now (reply.Refused refusal.NoMemory) → SpellsAnswer now.opens (reply.Refused refusal.NoMemory) → IsBatchMade limit session new s t None × (new.fed ≡ session.fed) × (new.sent ≡ session.sent)
+starved_batch limit session now new s t (q, serves, opens, after) is spells =
+    let last = one_answered now new (record { request = q; reply = no_memory }) (next_is now.opens q [] opens) is spells in
+    let one : Serves now new t t [] [] = record { more = []; calls = record { request = q; reply = no_memory } ∷ []; moments = []; continues = last.continues; receipts = starved none_made; seat = has_none t } in
+    let none : open_requests new.opens ≡ [] = after_same (q ∷ []) (open_requests new.opens) [] (sym last.left ∙ opens) in
+    ((serves_then serves one, no_requests new.opens none, last.ended_same ∙ after.goes_on), last.fed_same ∙ after.fed, last.sent_same ∙ after.sent)

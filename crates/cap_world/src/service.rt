@@ -1,9 +1,10 @@
 //! The requests of a connection that are complete, each made as a call on the cluster and answered (`answer_all`).
-ghost use Rattle.std.specs.Prelude.{◌≡◌, ◌<◌, ◌++◌, ◌∷◌, [], vec_len, vec_capacity, None};
+ghost use Rattle.std.specs.Prelude.{◌≡◌, ◌<◌, ◌++◌, ◌∷◌, [], vec_len, vec_capacity, None, IfOk, OnOk};
 ghost use Rattle.cap_base.specs.Limits.{resources};
 ghost use Rattle.cap_model.specs.News.{Reply};
 ghost use Rattle.cap_model.specs.Replies.{Replies};
 ghost use Rattle.cap_model.specs.Reporting.{HasRoomForReplies};
+ghost use Rattle.cap_model.specs.Stored.{IsCopyIfBoxed};
 ghost use Rattle.cap_session.specs.Session.{SpellsAnswer, after_answer, bytes_unanswered};
 ghost use Rattle.cap_world.specs.Answers.{call_event};
 ghost use Rattle.cap_world.specs.Serving.{IsServed, IsOpenFor, standing_of};
@@ -12,7 +13,7 @@ use crate::connection::Standing;
 use cap_base::RESOURCES;
 use cap_commit::Cluster;
 use cap_messages::dispatch;
-use cap_model::{Event, OwnedReply, ReplyRoom, Request};
+use cap_model::{BoxedRequest, Event, NoMemory, ReplyRoom, Request, StoredRequest, boxed_copy};
 use cap_session::{Next, Session, SessionCause};
 use std::alloc::Global;
 
@@ -32,17 +33,45 @@ pub(crate) fn answer_all(
     loop {
         match session.next_request() {
             Next::Request(request) => {
-                let Ok(room) = cluster.reply_room(alloc, &request) else {
+                let Ok(room) = CallRoom::of(alloc, cluster, &request, events) else {
                     return Standing::Starved;
                 };
-                if events.reserve(1).is_err() {
-                    return Standing::Starved;
-                }
                 perform(alloc, by, request, room, session, cluster, events);
             }
             Next::Need => return Standing::Open,
             Next::Ended(cause) => return standing_after(cause),
         }
+    }
+}
+
+/// The memory for the event of a call: a copy of its request where that has texts, and room for its reply.
+#[derive(Drop)]
+struct CallRoom {
+    request: Option<BoxedRequest<RESOURCES>>,
+    reply: ReplyRoom<RESOURCES>,
+}
+
+impl CallRoom {
+    /// The memory for a call, whatever it is answered now, with room for its event. If an allocation fails there is none.
+    fn of(
+        alloc: Global,
+        cluster: &Cluster<RESOURCES>,
+        request: &Request<RESOURCES>,
+        events: &mut Vec<Event<RESOURCES>>,
+    ) -> Result<CallRoom, NoMemory>
+        ensures request { IfOk result (λ room. IsCopyIfBoxed request.now room.request) }
+        ensures reply { IfOk result
+            (λ room. HasRoomForReplies cluster.now.flat request.now room.reply) }
+        ensures room { OnOk result (vec_len events.new < vec_capacity events.new) }
+        ensures events { events.new.items ≡ events.old.items }
+    {
+        if events.reserve(1).is_err() {
+            return Err(NoMemory);
+        }
+        Ok(CallRoom {
+            request: boxed_copy(alloc, request)?,
+            reply: cluster.reply_room(alloc, request)?,
+        })
     }
 }
 
@@ -61,14 +90,15 @@ fn perform(
     alloc: Global,
     by: u32,
     request: Request<RESOURCES>,
-    room: ReplyRoom<RESOURCES>,
+    room: CallRoom,
     session: &mut Session,
     cluster: &mut Cluster<RESOURCES>,
     events: &mut Vec<Event<RESOURCES>>,
 )
     requires open { IsOpenFor request session.old.opens }
     requires room { vec_len events.old < vec_capacity events.old }
-    requires news { HasRoomForReplies cluster.old.flat request room }
+    requires copy { IsCopyIfBoxed request room.request }
+    requires reply { HasRoomForReplies cluster.old.flat request room.reply }
     ensures performed { (reply : Reply resources)
         × Replies cluster.old.flat request reply cluster.new.flat
         × (session.new ≡ after_answer session.old reply)
@@ -77,22 +107,9 @@ fn perform(
     ensures less { bytes_unanswered session.new < bytes_unanswered session.old }
 {
     let given = dispatch(alloc, cluster, &request);
-    let reply = room.own(&cluster.view(&given));
+    let reply = room.reply.own(&cluster.view(&given));
     session.answer(&reply);
-    note_call(by, request, reply, events);
-}
-
-/// Adds the event of a call, for which there is room.
-fn note_call(
-    by: u32,
-    request: Request<RESOURCES>,
-    reply: OwnedReply<RESOURCES>,
-    events: &mut Vec<Event<RESOURCES>>,
-)
-    requires { vec_len events.old < vec_capacity events.old }
-    ensures { events.new.items ≡ events.old.items ++ call_event by request reply ∷ [] }
-{
-    let Ok(()) = events.push(Event::Call { by, request, reply }) else {
-        unreachable!()
-    };
+    let mut request = request;
+    let request = StoredRequest::moved(alloc, &mut request, room.request);
+    events.push_reserved(Event::Call { by, request, reply });
 }

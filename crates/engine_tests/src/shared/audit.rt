@@ -5,20 +5,20 @@ use cap_messages::dispatch;
 use cap_model::{
     Event, OwnedReply, PathText, Proposal, ProposalKind, ReplyView, ReplyWith, Request, Verdict,
 };
-use cap_shared::{Closed, Entry, EventForm, Receipt, SeatReport};
+use cap_shared::{Closed, Entry, Receipt, SeatReport};
 use std::alloc::Global;
 
 /// Whether each entry of the journal comes to the same on this cluster, one after the other.
 pub fn is_played(alloc: Global, cluster: &mut Cluster<RESOURCES>, journal: &[Entry]) -> bool {
     for entry in journal {
-        let same = match entry.event.form() {
-            EventForm::Call { by, request, reply } => {
+        let same = match &entry.event {
+            Event::Call { by, request, reply } => {
                 let Ok(request) = request.request(alloc) else {
                     return false;
                 };
                 *by == entry.seat && is_answered(alloc, cluster, &request, reply)
             }
-            EventForm::Grant { container } => {
+            Event::Grant { container } => {
                 let proposal = Proposal {
                     kind: ProposalKind::Grant,
                     app: container.app,
@@ -28,7 +28,7 @@ pub fn is_played(alloc: Global, cluster: &mut Cluster<RESOURCES>, journal: &[Ent
                 };
                 is_granted(cluster, proposal, container.number)
             }
-            EventForm::Reserve { reservation } => {
+            Event::Reserve { reservation } => {
                 let proposal = Proposal {
                     kind: ProposalKind::Reserve,
                     app: reservation.app,
@@ -175,16 +175,16 @@ fn is_report(seat: &SeatReport, journal: &[Entry]) -> bool {
 
 /// Whether it is the receipt for the entry at a position.
 fn is_for(receipt: &Receipt, at: u64, entry: &Entry) -> bool {
-    match (receipt, entry.event.form()) {
+    match (receipt, &entry.event) {
         (
             Receipt::Call {
                 position,
                 reply,
                 ..
             },
-            EventForm::Call { reply: entered, .. },
+            Event::Call { reply: entered, .. },
         ) => { *position == at && is_same(&reply.view(), &entered.view()) }
-        (Receipt::Commit { .. }, EventForm::Call { .. }) => false,
+        (Receipt::Commit { .. }, Event::Call { .. }) => false,
         (Receipt::Commit { position, .. }, _) => *position == at,
         _ => false,
     }

@@ -9,4 +9,4 @@ returns c =
     let one : (room : NewsRoom) → room ≡ news_most app id (length c.as_slice-releases.result.now) → HasRoomForReplies cluster c.args.request.now room =
     λ room most. has_some cluster c.in-Allocate.app id c.in-Allocate.asks c.in-Allocate.releases c.apps.result.now.table app room c.args.request.now c.in-Allocate.is c.apps.ensures.table (sym c.in-Some.ensures.found)
     (most ∙ ap (λ rs. news_most app id (length rs)) c.as_slice-releases.ensures.value) in
-    λ reply new is. (one _ c.in_ok-reply_room.ensures reply new is, one _ c.in_ok-reply_room-2.ensures reply new is, one _ c.in_ok-reply_room-3.ensures reply new is)
+    λ reply new is. (one _ c.in_ok-reply_room.ensures reply new is, one _ c.in_ok-reply_room-2.ensures reply new is)

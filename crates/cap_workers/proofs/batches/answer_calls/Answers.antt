@@ -1,23 +1,35 @@
-use Rattle.cap_workers.proofs.Prelude.{List, slice_index_or, ap, ◌∙◌, arith, resources, Reply}
-use Rattle.cap_workers.proofs.Together.{below_calls, can_go_on, may_answer_next, answered_none, answered_more, answered_whole}
+use Rattle.cap_workers.proofs.Prelude.{◌≡◌, ◌∙◌, subst, arith, Reply, resources, IsOfKind, kind_of}
+use Rattle.cap_workers.proofs.Together.{can_go_on, may_answer, answered_none, answered_more, answered_whole}
 use Rattle.cap_workers.proofs.batches.answer_calls.Goals as goal
 
-pub loop-reply-init : goal.loop-reply-init
-loop-reply-init c = λ calls by. answered_none c.args.session.now
+pub loop-receipt-init : goal.loop-receipt-init
+loop-receipt-init c = λ calls by. answered_none c.args.session.now
+
+pub unreachable-requires : goal.unreachable-requires
+unreachable-requires c =
+    let (calls, by) = c.requires.calls in
+    let x = can_go_on c.args.session.now c.loop-receipt.session c.args.receipts.now calls c.loop-receipt.receipt-index by (c.loop-receipt.invariant calls by) c.loop-receipt-test.true in
+    let called = c.receipt-item.is ∙ x.at.receipt_is c.receipt-item.result in
+    let committed = c.in_default.is in
+    cc
 
 pub answer-requires : goal.answer-requires
 answer-requires c =
-    let by = c.requires.calls.1 in
-    let calls = c.requires.calls.0 in
-    let below = below_calls c.args.replies.now calls c.loop-reply.reply-index by.replies_are c.loop-reply-test.true in
-    let x = can_go_on c.args.session.now c.loop-reply.session c.args.replies.now calls c.loop-reply.reply-index by (c.loop-reply.invariant calls by) below in
-    may_answer_next c.args.session.now c.loop-reply.session calls c.loop-reply.reply-index c.reply-item.result x (c.reply-item.is ∙ ap (λ (l : List (Reply resources)). slice_index_or l c.loop-reply.reply-index c.reply-item.result) by.replies_are ∙ x.at.reply c.reply-item.result)
+    let (calls, by) = c.requires.calls in
+    let x = can_go_on c.args.session.now c.loop-receipt.session c.args.receipts.now calls c.loop-receipt.receipt-index by (c.loop-receipt.invariant calls by) c.loop-receipt-test.true in
+    let called = c.receipt-item.is ∙ x.at.receipt_is c.receipt-item.result in
+    let is = c.in-Call.is in
+    let same : x.at.call.reply ≡ c.in-Call.reply = cc in
+    may_answer c.loop-receipt.session.opens x.at.call.request c.in-Call.reply x.next (subst (λ (r : Reply resources). IsOfKind (kind_of x.at.call.request) r) same x.at.kind)
 
-pub loop-reply-preserved : goal.loop-reply-preserved
-loop-reply-preserved c = λ calls by.
-    let below = below_calls c.args.replies.now calls c.loop-reply.reply-index by.replies_are c.loop-reply-test.true in
-    let x = can_go_on c.args.session.now c.loop-reply.session c.args.replies.now calls c.loop-reply.reply-index by (c.loop-reply.invariant calls by) below in
-    answered_more c.args.session.now c.loop-reply.session c.answer.new.self calls c.loop-reply.reply-index c.reply-item.result (c.loop-reply.invariant calls by) x (c.reply-item.is ∙ ap (λ (l : List (Reply resources)). slice_index_or l c.loop-reply.reply-index c.reply-item.result) by.replies_are ∙ x.at.reply c.reply-item.result) c.answer.ensures.answered c.answer.ensures.spells
+pub loop-receipt-preserved : goal.loop-receipt-preserved
+loop-receipt-preserved c = λ calls by.
+    let done = c.loop-receipt.invariant calls by in
+    let x = can_go_on c.args.session.now c.loop-receipt.session c.args.receipts.now calls c.loop-receipt.receipt-index by done c.loop-receipt-test.true in
+    let called = c.receipt-item.is ∙ x.at.receipt_is c.receipt-item.result in
+    let is = c.in-Call.is in
+    let same : c.in-Call.reply ≡ x.at.call.reply = cc in
+    answered_more c.args.session.now c.loop-receipt.session c.answer.new.self c.args.receipts.now calls c.loop-receipt.receipt-index c.in-Call.reply done x same c.answer.ensures.answered c.answer.ensures.spells
 
 pub returns : goal.returns
-returns c = λ calls by. answered_whole c.args.session.now c.loop-reply.session c.args.replies.now calls c.loop-reply.reply-index (c.loop-reply.invariant calls by) by.replies_are (omega (arith, c.loop-reply-test.false, c.loop-reply.auto.reply-index-end))
+returns c = λ calls by. answered_whole c.args.session.now c.loop-receipt.session c.args.receipts.now calls c.loop-receipt.receipt-index (c.loop-receipt.invariant calls by) by.are (omega (arith, c.loop-receipt-test.false, c.loop-receipt.auto.receipt-index-end))

@@ -1,9 +1,9 @@
-use Rattle.cap_workers.proofs.Prelude.{◌∷◌, ◌-◌, [], length, vec_capacity, CallsMade}
+use Rattle.cap_workers.proofs.Prelude.{◌∷◌, ◌-◌, [], length, CallsMade}
 use Rattle.cap_workers.proofs.batches.call_all.Given as goal
 
 -- the calls so far
-abbrev pub invariant-loop-reply : goal.invariant-loop-reply
-invariant-loop-reply g l = CallsMade l.fn.session l.session (l.request ∷ []) l.replies.items l.fn.seat l.seat []
+abbrev pub invariant-loop-request : goal.invariant-loop-request
+invariant-loop-request g l = CallsMade l.fn.session l.session (l.request ∷ []) l.fn.seat l.seat []
 
-abbrev pub decreases-loop-reply : goal.decreases-loop-reply
-decreases-loop-reply g l = vec_capacity l.replies - length l.replies.items
+abbrev pub decreases-loop-request : goal.decreases-loop-request
+decreases-loop-request g l = length l.session.fed - length l.session.opens

@@ -14,15 +14,9 @@ pub loop-request-preserved : goal.loop-request-preserved
 loop-request-preserved c =
     let i = c.loop-request.invariant in
     let p = c.perform.ensures.performed in
-    let added = p.4 ∙ ap (λ (es : List (Event resources)). es ++ call_event c.args.by c.in-Request.request p.0 ∷ []) c.reserve.ensures.items in
+    let added = p.4 ∙ ap (λ (es : List (Event resources)). es ++ call_event c.args.by c.in-Request.request p.0 ∷ []) c.of.ensures.events in
     let one = serves_call c.args.by c.loop-request.session c.next_request.new.self c.perform.new.session c.in-Request.request p.0 c.loop-request.cluster.flat c.perform.new.cluster.flat c.loop-request.events.items c.perform.new.events.items c.in-Request.ensures.gives p.2 p.3 p.1 added in
     record { serves = serves_then i.serves one.0; sent = one.1 ∙ i.sent; none_open = one.2; ended = one.3 }
-
-pub returns-then-is_err : goal.returns-then-is_err
-returns-then-is_err c =
-    let i = c.loop-request.invariant in
-    rw c.reserve.ensures.items
-    (served_starved c.args.by c.args.session.now c.loop-request.session c.next_request.new.self c.in-Request.request c.args.cluster.now.flat c.loop-request.cluster.flat c.args.events.now.items c.loop-request.events.items i.serves i.sent c.in-Request.ensures.gives c.in-Request.ensures.session)
 
 pub returns-in-Need : goal.returns-in-Need
 returns-in-Need c =
@@ -38,4 +32,5 @@ returns-in-Ended c =
 pub returns-in_default : goal.returns-in_default
 returns-in_default c =
     let i = c.loop-request.invariant in
-    served_starved c.args.by c.args.session.now c.loop-request.session c.next_request.new.self c.in-Request.request c.args.cluster.now.flat c.loop-request.cluster.flat c.args.events.now.items c.loop-request.events.items i.serves i.sent c.in-Request.ensures.gives c.in-Request.ensures.session
+    rw c.of.ensures.events
+    (served_starved c.args.by c.args.session.now c.loop-request.session c.next_request.new.self c.in-Request.request c.args.cluster.now.flat c.loop-request.cluster.flat c.args.events.now.items c.loop-request.events.items i.serves i.sent c.in-Request.ensures.gives c.in-Request.ensures.session)

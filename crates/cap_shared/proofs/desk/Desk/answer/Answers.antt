@@ -1,6 +1,7 @@
-use Rattle.cap_shared.proofs.Prelude.{◌≡◌, [], ◌∷◌, ◌++◌, length, ap, ◌∙◌, arith, Content, full_reply}
+use Rattle.cap_shared.proofs.Prelude.{◌≡◌, [], ◌∷◌, ◌++◌, length, refl, ap, ◌∙◌, arith, Content, full_reply}
+use Rattle.cap_model.specs.declared.event.Event.TheVariants as event
 use Rattle.cap_shared.specs.declared.entry.Receipt.TheVariants as receipt
-use Rattle.cap_shared.proofs.Entering.{call_step, call_by}
+use Rattle.cap_shared.proofs.Entering.{call_step}
 use Rattle.cap_shared.proofs.Pasts.{entered_seat, entered_desk}
 use Rattle.cap_shared.proofs.desk.Desk.answer.Goals as goal
 
@@ -14,15 +15,17 @@ invariant_of-self-2 g c =
     let new = c.make_call-answer.new.cluster.flat in
     let reply = full_reply new c.make_call-answer.result in
     let copies = c.own_copies-copies in
+    let called = event.Call c.seat.inside.number c.moved.result copies.result.entry in
     let len = c.self.inside.journal.ok.0 in
     let log : length c.self.inside.journal.items ≡ length c.args.self.now.log = ap (λ (v : Content). length v.log) c.self.view_is in
-    let step = call_step c.self.inside.cluster.flat new c.seat.inside.number c.args.request.now _ reply _ c.of-event.result c.make_call-answer.ensures.replies c.moved.ensures copies.ensures.entry c.of-event.ensures in
-    entered_desk _ _ _ _ c.self.inside.journal.items c.self.inside.pass c.enter.new.desk c.seat.inside.pass c.enter.new.seat c.self.inside.cluster.flat new _ _ _ (record { seat = c.seat.inside.number; event = c.of-event.result })
-    (receipt.Call c.next_position-position.result c.in-Ok.room.receipt copies.result.receipt) _ c.self.invariant c.enter.ensures.entered step (c.seat.invariant.below, call_by _ _ _ c.of-event.result c.of-event.ensures) (omega (arith, c.requires.room, c.self.invariant.limit_is)) c.enter.ensures.journal c.enter.ensures.capacity
+    let step = call_step c.self.inside.cluster.flat new c.seat.inside.number c.args.request.now _ reply _ c.make_call-answer.ensures.replies c.moved.ensures copies.ensures.entry in
+    entered_desk _ _ _ _ c.self.inside.journal.items c.self.inside.pass c.enter.new.desk c.seat.inside.pass c.enter.new.seat c.self.inside.cluster.flat new _ _ _ (record { seat = c.seat.inside.number; event = called })
+    (receipt.Call c.next_position-position.result c.in-Ok.room.receipt copies.result.receipt) _ c.self.invariant c.enter.ensures.entered step (c.seat.invariant.below, refl) (omega (arith, c.requires.room, c.self.invariant.limit_is)) c.enter.ensures.journal c.enter.ensures.capacity
 
 pub invariant_of-seat-2 : goal.invariant_of-seat-2
 invariant_of-seat-2 g c =
     let r = receipt.Call c.next_position-position.result c.in-Ok.room.receipt c.own_copies-copies.result.receipt in
+    let called = event.Call c.seat.inside.number c.moved.result c.own_copies-copies.result.entry in
     let at = c.self.inside.journal.ok.0 in
-    entered_seat _ _ _ _ c.self.inside.journal.items c.self.inside.pass c.enter.new.desk c.seat.inside.pass c.enter.new.seat _ _ _ (record { seat = c.seat.inside.number; event = c.of-event.result }) r
+    entered_seat _ _ _ _ c.self.inside.journal.items c.self.inside.pass c.enter.new.desk c.seat.inside.pass c.enter.new.seat _ _ _ (record { seat = c.seat.inside.number; event = called }) r
     c.seat.invariant c.enter.ensures.entered (omega (arith, c.next_position-position.ensures)) (c.enter.ensures.receipts ∙ ap (λ xs. xs ++ r ∷ []) c.in-Ok.ensures.receipts)

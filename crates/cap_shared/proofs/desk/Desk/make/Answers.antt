@@ -17,19 +17,19 @@ invariant_of-seat g c =
 pub invariant_of-self-2 : goal.invariant_of-self-2
 invariant_of-self-2 g c =
     let log : length c.self.inside.journal.items ≡ length c.args.self.now.log = ap (λ (v : Content). length v.log) c.self.view_is in
-    let step = subst (λ (e : Event resources). Step c.self.inside.cluster.flat e c.make_proposed.new.cluster.flat) (sym c.compact.ensures) c.in-Ok.ensures.step in
-    entered_desk _ _ _ _ c.self.inside.journal.items c.self.inside.pass c.enter.new.desk c.seat.inside.pass c.enter.new.seat c.self.inside.cluster.flat c.make_proposed.new.cluster.flat _ _ _ (record { seat = c.seat.inside.number; event = c.compact.result }) (receipt.Commit c.next_position-at.result c.compact-2.result) _
-    c.self.invariant c.enter.ensures.entered step (c.seat.invariant.below, event_by _ c.in-Ok.made _ c.compact.ensures) (omega (arith, c.requires.room, c.self.invariant.limit_is)) c.enter.ensures.journal c.enter.ensures.capacity
+    let step = subst (λ (e : Event resources). Step c.self.inside.cluster.flat e c.make_proposed.new.cluster.flat) (sym c.event.ensures) c.in-Ok.ensures.step in
+    entered_desk _ _ _ _ c.self.inside.journal.items c.self.inside.pass c.enter.new.desk c.seat.inside.pass c.enter.new.seat c.self.inside.cluster.flat c.make_proposed.new.cluster.flat _ _ _ (record { seat = c.seat.inside.number; event = c.event.result }) (receipt.Commit c.next_position-at.result c.event-2.result) _
+    c.self.invariant c.enter.ensures.entered step (c.seat.invariant.below, event_by _ c.in-Ok.made _ c.event.ensures) (omega (arith, c.requires.room, c.self.invariant.limit_is)) c.enter.ensures.journal c.enter.ensures.capacity
 
 pub invariant_of-seat-2 : goal.invariant_of-seat-2
 invariant_of-seat-2 g c =
-    let r = receipt.Commit c.next_position-at.result c.compact-2.result in
+    let r = receipt.Commit c.next_position-at.result c.event-2.result in
     let at = c.self.inside.journal.ok.0 in
-    entered_seat _ _ _ _ c.self.inside.journal.items c.self.inside.pass c.enter.new.desk c.seat.inside.pass c.enter.new.seat _ _ _ (record { seat = c.seat.inside.number; event = c.compact.result }) r
+    entered_seat _ _ _ _ c.self.inside.journal.items c.self.inside.pass c.enter.new.desk c.seat.inside.pass c.enter.new.seat _ _ _ (record { seat = c.seat.inside.number; event = c.event.result }) r
     c.seat.invariant c.enter.ensures.entered (omega (arith, c.next_position-at.ensures)) (c.enter.ensures.receipts ∙ ap (λ xs. xs ++ r ∷ []) c.in-Ok.ensures.receipts)
 
 pub returns-clause-answer : goal.returns-clause-answer
 returns-clause-answer g c = (
-  subst (λ (e : Event resources). IsOf c.args.proposal e) (sym c.event.ensures) c.in-Ok.ensures.of,
-  (c.next_position-at.result, one_more c.seat.inside.pass c.enter.new.seat _ _ _ c.seat.view_is c.enter.ensures.entered.sits (ap (λ r. Entered r) (event_receipt _ c.in-Ok.made _ _ c.event.ensures c.compact-2.ensures))),
+  subst (λ (e : Event resources). IsOf c.args.proposal e) (sym c.event-3.ensures) c.in-Ok.ensures.of,
+  (c.next_position-at.result, one_more c.seat.inside.pass c.enter.new.seat _ _ _ c.seat.view_is c.enter.ensures.entered.sits (ap (λ r. Entered r) (event_receipt _ c.in-Ok.made _ _ c.event-3.ensures c.event-2.ensures))),
 )

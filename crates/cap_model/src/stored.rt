@@ -1,9 +1,11 @@
-//! A request in little space, as a journal holds it: a short one in place, any other behind a pointer (`CompactRequest`).
-ghost use Rattle.std.specs.Prelude.{◌≡◌, IfOk};
-ghost use Rattle.cap_shared.specs.Requests.{IsCopyIfBoxed};
+//! A request as events and journals keep it: a short one in place, any other behind a pointer (`StoredRequest`).
+ghost use Rattle.std.specs.Prelude.{◌≡◌, ◌≤◌, IfOk};
+ghost use Rattle.cap_base.specs.Limits.{resources_max};
+ghost use Rattle.cap_model.specs.Stored.{IsCopyIfBoxed};
 
-use cap_base::RESOURCES;
-use cap_model::{Asks, List, NoMemory, Numbers, Request};
+use crate::list::{Asks, List, Numbers};
+use crate::request::Request;
+use cap_base::NoMemory;
 use std::alloc::Global;
 use std::marker::Model;
 use std::mem;
@@ -11,14 +13,14 @@ use std::mem;
 /// How a request is kept: one of the kinds that are named here in place, and any other, as those with texts, which are long,
 /// behind a pointer.
 #[derive(Drop)]
-pub enum RequestForm {
+pub enum RequestForm<const K: usize> {
     RegisterMaster {
         app: u64,
     },
     Allocate {
         response: u32,
         app: u64,
-        asks: Asks<RESOURCES>,
+        asks: Asks<K>,
         releases: Numbers,
     },
     FinishMaster {
@@ -33,33 +35,38 @@ pub enum RequestForm {
         node: u64,
     },
     ClusterInfo,
-    Boxed(Box<Request<RESOURCES>>),
+    Boxed(Box<Request<K>>),
 }
 
 /// A request, in at most 80 bytes and what its lists and texts take. Contracts see the request.
-pub struct CompactRequest {
-    form: RequestForm,
+pub struct StoredRequest<const K: usize> {
+    form: RequestForm<K>,
 }
 
-impl Drop for CompactRequest {
+impl<const K: usize> Drop for StoredRequest<K> {
     fn drop(self) {
-        let CompactRequest { form: _ } = self;
+        let StoredRequest { form: _ } = self;
     }
 }
 
-impl Model for CompactRequest {
-    ghost use Rattle.cap_base.specs.Limits.{resources};
+impl<const K: usize> Model for StoredRequest<K> {
+    ghost use Rattle.std.specs.Prelude.{◌≤◌};
+    ghost use Rattle.cap_base.specs.Limits.{resources_max};
     ghost use Rattle.cap_model.specs.declared.request.Request.{Request};
-    ghost use Rattle.cap_shared.specs.Requests.{request_of};
+    ghost use Rattle.cap_model.specs.Stored.{request_in};
 
-    ghost Value = { Request resources };
+    ghost Value = { Request K };
 
-    ghost view = { λ r. request_of r.form };
+    ghost view = { λ r. request_in r.form };
+
+    // So the size of a request is known wherever one is dropped.
+    ghost invariant = { λ r. K ≤ resources_max };
 }
 
-impl CompactRequest {
+impl<const K: usize> StoredRequest<K> {
     /// The same request, in memory of its own. If an allocation fails there is none.
-    pub fn of(alloc: Global, request: &Request<RESOURCES>) -> Result<CompactRequest, NoMemory>
+    pub fn of(alloc: Global, request: &Request<K>) -> Result<StoredRequest<K>, NoMemory>
+        requires { K ≤ resources_max }
         ensures { IfOk result (λ copy. copy ≡ request.now) }
     {
         let form = match request {
@@ -89,20 +96,21 @@ impl CompactRequest {
             Request::ClusterInfo => RequestForm::ClusterInfo,
             _ => RequestForm::Boxed(boxed(alloc, request)?),
         };
-        Ok(CompactRequest { form })
+        Ok(StoredRequest { form })
     }
 
     /// The same request: its lists are taken out of it, and one that stands behind a pointer is its copy. It takes no memory.
-    pub(crate) fn moved(
+    pub fn moved(
         alloc: Global,
-        request: &mut Request<RESOURCES>,
-        copy: Option<BoxedCopy>,
-    ) -> CompactRequest
-        requires { IsCopyIfBoxed request.old copy }
+        request: &mut Request<K>,
+        copy: Option<BoxedRequest<K>>,
+    ) -> StoredRequest<K>
+        requires copy { IsCopyIfBoxed request.old copy }
+        requires resources { K ≤ resources_max }
         ensures { result ≡ request.old }
     {
         if let Some(copy) = copy {
-            return CompactRequest {
+            return StoredRequest {
                 form: RequestForm::Boxed(copy.request),
             };
         }
@@ -133,11 +141,11 @@ impl CompactRequest {
             Request::ClusterInfo => RequestForm::ClusterInfo,
             _ => unreachable!(),
         };
-        CompactRequest { form }
+        StoredRequest { form }
     }
 
     /// The request, in memory of its own. If an allocation fails there is none.
-    pub fn request(&self, alloc: Global) -> Result<Request<RESOURCES>, NoMemory>
+    pub fn request(&self, alloc: Global) -> Result<Request<K>, NoMemory>
         ensures { IfOk result (λ request. request ≡ self.now) }
     {
         match &self.form {
@@ -172,15 +180,16 @@ impl CompactRequest {
 
 /// A copy of a request behind a pointer.
 #[derive(Drop)]
-pub struct BoxedCopy {
-    pub request: Box<Request<RESOURCES>>,
+pub struct BoxedRequest<const K: usize> {
+    pub request: Box<Request<K>>,
 }
 
 /// A copy of the request, unless it is kept in place. If an allocation fails there is none.
-pub(crate) fn boxed_copy(
+pub fn boxed_copy<const K: usize>(
     alloc: Global,
-    request: &Request<RESOURCES>,
-) -> Result<Option<BoxedCopy>, NoMemory>
+    request: &Request<K>,
+) -> Result<Option<BoxedRequest<K>>, NoMemory>
+    requires { K ≤ resources_max }
     ensures { IfOk result (IsCopyIfBoxed request.now) }
 {
     match request {
@@ -190,14 +199,15 @@ pub(crate) fn boxed_copy(
         | Request::Heartbeat { .. }
         | Request::NodeGone { .. }
         | Request::ClusterInfo => Ok(None),
-        _ => Ok(Some(BoxedCopy {
+        _ => Ok(Some(BoxedRequest {
             request: boxed(alloc, request)?,
         })),
     }
 }
 
 /// The request's copy behind a pointer. If an allocation fails there is none.
-fn boxed(alloc: Global, request: &Request<RESOURCES>) -> Result<Box<Request<RESOURCES>>, NoMemory>
+fn boxed<const K: usize>(alloc: Global, request: &Request<K>) -> Result<Box<Request<K>>, NoMemory>
+    requires { K ≤ resources_max }
     ensures { IfOk result (λ copy. copy.value ≡ request.now) }
 {
     let copy = request.copy(alloc)?;
