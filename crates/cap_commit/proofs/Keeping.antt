@@ -16,10 +16,6 @@ pub reserve_kind : (k : ProposalKind) → is_grant k ≡ false → ProposalKind.
 reserve_kind ProposalKind.Grant e = absurd (cc e)
 reserve_kind ProposalKind.Reserve e = refl
 
--- the node of a proposal that passes is present
-pub node_of_it : {K : ℕ} (p : Parts K) (h : IsCluster p) (q : NodeProposal) → reason_of (sight_of (flat_of p)) q ≡ None → IsSome (node_in p.nodes q.node)
-node_of_it {K} p h q passes = sym (node_there p h q.node) ∙ (((rejected_exactly K (sight_of (flat_of p)) q).0 passes).0).present
-
 -- the cluster with one more reservation
 pub reserved_is : {K : ℕ} (p : Parts K) (rows' : List Row) (r : Reservation) (nodes' : NodeTable) → queues_of rows' ≡ queues_of p.rows → nodes' ≡ add_reservation r p.nodes → flat_of (record p { rows = rows'; nodes = nodes' }) ≡ after_reserve (flat_of p) r
 reserved_is p rows' r nodes' same is = λ i. record { settings = record (flat_of p).settings { queues = same i }; apps = p.apps.table; nodes = is i }

@@ -21,11 +21,6 @@ exceeds_not a b fits =
     let no : (k : ℕ) → k < resources → test k ≡ false = λ k h. let f = fits k h in grind (arith, nat_tests) in
     list_any_none test (range_with_len 0 resources) (λ k d h. ap test (place k d h) ∙ no k h)
 
-pub not_exceeds : (a b : List ℕ) → exceeds a b ≡ false → (k : ℕ) → k < resources → get_or a k 0 ≤ get_or b k 0
-not_exceeds a b none k h =
-    let no : ltb (get_or b k 0) (get_or a k 0) ≡ false = false_from_ne_true _ (λ over. absurd (cc (sym none ∙ exceeds_at a b k h over))) in
-    grind (arith, nat_tests)
-
 -- what is more, where each amount is more than the other just where it is more than a third
 pub exceeds_same : (a b x y : List ℕ) → ((k : ℕ) → k < resources → ltb (get_or b k 0) (get_or a k 0) ≡ ltb (get_or y k 0) (get_or x k 0)) → exceeds a b ≡ exceeds x y
 exceeds_same a b x y same = rw (same 0 (omega arith), same 1 (omega arith), same 2 (omega arith)) refl

@@ -165,6 +165,3 @@ module _ {K : ℕ} (a b : Sight K) (same : ShowTheSame a b) where
 
   pub same_choice : (start : ℕ) → choice_from a start ≡ choice_from b start
   same_choice start = ap (λ x. choice_from x start) between ∙ first_choice_same b a.queues b.queues alike (ring_from start b.nodes)
-
-  pub same_admissible : (p : NodeProposal) → IsAdmissible a p → IsAdmissible b p
-  same_admissible p adm = still_admissible b a.queues b.queues alike p (subst (λ (x : Sight K). IsAdmissible x p) between adm)

@@ -157,9 +157,6 @@ module _ {T : Type 0} (name : T → List ℕ) (item : T) (kids : List (List (Spo
   pub kids_are : children_at [] value ≡ kid_items kids
   kids_are = λ k i. (ap (item_at (i ∷ [])) (sym e) ∙ item_at-spots name item i [] kids) k
 
-  pub passing_within : (order : T → T → Ordering) (test : T → Bool) (j : ℕ) → IsThere order (that_pass test (kid_items kids)) j → j < length kids
-  passing_within order test j t = there_within name item kids value e test j (subst (λ child. HoldsOfItem (λ _. Unit {0}) (that_pass test child j)) (sym kids_are) t)
-
   pub kids_differ : (order : T → T → Ordering) → IsTotalOrder order → ((x y : T) → order x y ≡ Equal → name x ≡ name y) → All (AreSpots name) kids → HasPathsOnce value → AreApart order (kid_items kids)
   kids_differ order total names trees once = subst (AreApart order) kids_are apart
     where

@@ -213,10 +213,6 @@ module _ {T : Type 0} (order : T → T → Ordering) (total : IsTotalOrder order
   of_all k None within s = λ j t c. s j (within j t) t c
   of_all k (Some n) within s = record { there = s.1; later = s.2; first = λ j t c. s.3 j (within j t) t c }
 
-  pub named_there : (k : ℕ) (next : Option ℕ) → IsFirstOf k next → (n : ℕ) → next ≡ Some n → IsThere order child n
-  named_there k None s n e = absurd (cc e)
-  named_there k (Some m) s n e = subst (IsThere order child) (cc e) s.1
-
 -- a next one so far is among those that pass
 pub named_so_far : {T : Type 0} (order : T → T → Ordering) (total : IsTotalOrder order) (test : T → Bool) (child : ℕ → Option T) (after : Option ℕ) (k : ℕ) (next : Option ℕ) → IsFirstOf order total (that_pass test child) after k next →
     named child next ≡ named (that_pass test child) next
