@@ -1,10 +1,10 @@
--- The request that a stored one is, and a copy of a request that stands behind a pointer.
-use Rattle.std.specs.Prelude.{◌≡◌, ℕ, Option, Some, None}
+-- The request that a stored one is, and which requests stand behind a pointer.
+use Rattle.std.specs.Prelude.{ℕ, Option, Some, None}
 use Rattle.cap_model.specs.declared.request.Request.{Request}
 use Rattle.cap_model.specs.declared.request.Request.TheVariants as request
 use Rattle.cap_model.specs.declared.stored.RequestForm.{RequestForm}
 use Rattle.cap_model.specs.declared.stored.RequestForm.TheVariants as form
-use Rattle.cap_model.specs.declared.stored.BoxedRequest.{BoxedRequest}
+use Rattle.cap_model.specs.declared.stored.RequestRoom.{RequestRoom}
 
 module _ {K : ℕ} where
   abbrev pub request_in : RequestForm K → Request K
@@ -26,7 +26,7 @@ module _ {K : ℕ} where
   StandsInPlace request.ClusterInfo = Unit {0}
   StandsInPlace other = ⊥
 
-  -- there is a copy of it, unless it is kept in place
-  abbrev pub IsCopyIfBoxed : Request K → Option (BoxedRequest K) → Type 0
-  IsCopyIfBoxed request (Some copy) = copy.request.value ≡ request
-  IsCopyIfBoxed request None = StandsInPlace request
+  -- there is room for it, unless it is kept in place
+  abbrev pub HasRoomIfLong : Request K → Option (RequestRoom K) → Type 0
+  HasRoomIfLong request (Some room) = Unit {0}
+  HasRoomIfLong request None = StandsInPlace request

@@ -1,7 +1,7 @@
 //! A request as events and journals keep it: a short one in place, any other behind a pointer (`StoredRequest`).
 ghost use Rattle.std.specs.Prelude.{◌≡◌, ◌≤◌, IfOk};
 ghost use Rattle.cap_base.specs.Limits.{resources_max};
-ghost use Rattle.cap_model.specs.Stored.{IsCopyIfBoxed};
+ghost use Rattle.cap_model.specs.Stored.{HasRoomIfLong};
 
 use crate::list::{Asks, List, Numbers};
 use crate::request::Request;
@@ -94,24 +94,25 @@ impl<const K: usize> StoredRequest<K> {
             },
             Request::NodeGone { node } => RequestForm::NodeGone { node: *node },
             Request::ClusterInfo => RequestForm::ClusterInfo,
-            _ => RequestForm::Boxed(boxed(alloc, request)?),
+            _ => RequestForm::Boxed(boxed(alloc, request.copy(alloc)?)?),
         };
         Ok(StoredRequest { form })
     }
 
-    /// The same request: its lists are taken out of it, and one that stands behind a pointer is its copy. It takes no memory.
+    /// The same request: its lists are taken out of it, and one that stands behind a pointer is moved there whole. It takes no memory.
     pub fn moved(
         alloc: Global,
         request: &mut Request<K>,
-        copy: Option<BoxedRequest<K>>,
+        room: Option<RequestRoom<K>>,
     ) -> StoredRequest<K>
-        requires copy { IsCopyIfBoxed request.old copy }
+        requires room { HasRoomIfLong request.old room }
         requires resources { K ≤ resources_max }
         ensures { result ≡ request.old }
     {
-        if let Some(copy) = copy {
+        if let Some(RequestRoom { mut place }) = room {
+            *place = mem::replace(request, Request::ClusterInfo);
             return StoredRequest {
-                form: RequestForm::Boxed(copy.request),
+                form: RequestForm::Boxed(place),
             };
         }
         let form = match request {
@@ -178,19 +179,19 @@ impl<const K: usize> StoredRequest<K> {
     }
 }
 
-/// A copy of a request behind a pointer.
+/// Room for a request behind a pointer.
 #[derive(Drop)]
-pub struct BoxedRequest<const K: usize> {
-    pub request: Box<Request<K>>,
+pub struct RequestRoom<const K: usize> {
+    place: Box<Request<K>>,
 }
 
-/// A copy of the request, unless it is kept in place. If an allocation fails there is none.
-pub fn boxed_copy<const K: usize>(
+/// Room for the request behind a pointer, unless it is kept in place. If an allocation fails there is none.
+pub fn request_room<const K: usize>(
     alloc: Global,
     request: &Request<K>,
-) -> Result<Option<BoxedRequest<K>>, NoMemory>
+) -> Result<Option<RequestRoom<K>>, NoMemory>
     requires { K ≤ resources_max }
-    ensures { IfOk result (IsCopyIfBoxed request.now) }
+    ensures { IfOk result (HasRoomIfLong request.now) }
 {
     match request {
         Request::RegisterMaster { .. }
@@ -199,20 +200,19 @@ pub fn boxed_copy<const K: usize>(
         | Request::Heartbeat { .. }
         | Request::NodeGone { .. }
         | Request::ClusterInfo => Ok(None),
-        _ => Ok(Some(BoxedRequest {
-            request: boxed(alloc, request)?,
+        _ => Ok(Some(RequestRoom {
+            place: boxed(alloc, Request::ClusterInfo)?,
         })),
     }
 }
 
-/// The request's copy behind a pointer. If an allocation fails there is none.
-fn boxed<const K: usize>(alloc: Global, request: &Request<K>) -> Result<Box<Request<K>>, NoMemory>
+/// The request behind a pointer. If an allocation fails there is none.
+fn boxed<const K: usize>(alloc: Global, request: Request<K>) -> Result<Box<Request<K>>, NoMemory>
     requires { K ≤ resources_max }
-    ensures { IfOk result (λ copy. copy.value ≡ request.now) }
+    ensures { IfOk result (λ boxed. boxed.value ≡ request.entry) }
 {
-    let copy = request.copy(alloc)?;
-    match Box::new(alloc, copy) {
-        Ok(copy) => Ok(copy),
+    match Box::new(alloc, request) {
+        Ok(boxed) => Ok(boxed),
         Err(_) => Err(NoMemory),
     }
 }

@@ -12,8 +12,8 @@ use cap_base::RESOURCES;
 use cap_commit::Cluster;
 use cap_messages::dispatch;
 use cap_model::{
-    AllocateReply, BoxedRequest, NoMemory, OwnedReply, Refusal, Reply, ReplyRoom, ReplyWith,
-    Request, StoredRequest, boxed_copy,
+    AllocateReply, NoMemory, OwnedReply, Refusal, Reply, ReplyRoom, ReplyWith, Request,
+    RequestRoom, StoredRequest, request_room,
 };
 use std::alloc::Global;
 
@@ -116,7 +116,7 @@ fn own_without_lists(alloc: Global, reply: &Reply<RESOURCES>) -> OwnedReply<RESO
 /// All the memory that a call needs beside what the cluster itself needs.
 #[derive(Drop)]
 pub struct CallRoom {
-    pub entry: Option<BoxedRequest<RESOURCES>>,
+    pub entry: Option<RequestRoom<RESOURCES>>,
     pub receipt: StoredRequest<RESOURCES>,
     pub news: Option<NewsRooms>,
 }
@@ -137,7 +137,7 @@ impl CallRoom {
             return Err(NoMemory);
         }
         Ok(CallRoom {
-            entry: boxed_copy(alloc, request)?,
+            entry: request_room(alloc, request)?,
             receipt: StoredRequest::of(alloc, request)?,
             news: news_rooms(alloc, cluster, request)?,
         })

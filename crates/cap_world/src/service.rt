@@ -4,7 +4,7 @@ ghost use Rattle.cap_base.specs.Limits.{resources};
 ghost use Rattle.cap_model.specs.News.{Reply};
 ghost use Rattle.cap_model.specs.Replies.{Replies};
 ghost use Rattle.cap_model.specs.Reporting.{HasRoomForReplies};
-ghost use Rattle.cap_model.specs.Stored.{IsCopyIfBoxed};
+ghost use Rattle.cap_model.specs.Stored.{HasRoomIfLong};
 ghost use Rattle.cap_session.specs.Session.{SpellsAnswer, after_answer, bytes_unanswered};
 ghost use Rattle.cap_world.specs.Answers.{call_event};
 ghost use Rattle.cap_world.specs.Serving.{IsServed, IsOpenFor, standing_of};
@@ -13,7 +13,7 @@ use crate::connection::Standing;
 use cap_base::RESOURCES;
 use cap_commit::Cluster;
 use cap_messages::dispatch;
-use cap_model::{BoxedRequest, Event, NoMemory, ReplyRoom, Request, StoredRequest, boxed_copy};
+use cap_model::{Event, NoMemory, ReplyRoom, Request, RequestRoom, StoredRequest, request_room};
 use cap_session::{Next, Session, SessionCause};
 use std::alloc::Global;
 
@@ -47,7 +47,7 @@ pub(crate) fn answer_all(
 /// The memory for the event of a call: a copy of its request where that has texts, and room for its reply.
 #[derive(Drop)]
 struct CallRoom {
-    request: Option<BoxedRequest<RESOURCES>>,
+    request: Option<RequestRoom<RESOURCES>>,
     reply: ReplyRoom<RESOURCES>,
 }
 
@@ -59,7 +59,7 @@ impl CallRoom {
         request: &Request<RESOURCES>,
         events: &mut Vec<Event<RESOURCES>>,
     ) -> Result<CallRoom, NoMemory>
-        ensures request { IfOk result (λ room. IsCopyIfBoxed request.now room.request) }
+        ensures request { IfOk result (λ room. HasRoomIfLong request.now room.request) }
         ensures reply { IfOk result
             (λ room. HasRoomForReplies cluster.now.flat request.now room.reply) }
         ensures room { OnOk result (vec_len events.new < vec_capacity events.new) }
@@ -69,7 +69,7 @@ impl CallRoom {
             return Err(NoMemory);
         }
         Ok(CallRoom {
-            request: boxed_copy(alloc, request)?,
+            request: request_room(alloc, request)?,
             reply: cluster.reply_room(alloc, request)?,
         })
     }
@@ -97,7 +97,7 @@ fn perform(
 )
     requires open { IsOpenFor request session.old.opens }
     requires room { vec_len events.old < vec_capacity events.old }
-    requires copy { IsCopyIfBoxed request room.request }
+    requires request { HasRoomIfLong request room.request }
     requires reply { HasRoomForReplies cluster.old.flat request room.reply }
     ensures performed { (reply : Reply resources)
         × Replies cluster.old.flat request reply cluster.new.flat
