@@ -32,6 +32,7 @@ echo_back() {
 
 # begins a server, which reads what this does, and waits until it listens
 begin() {
+  : >"$work/said"
   "$@" <&0 >"$work/said" 2>"$work/messages" &
   server=$!
   until grep -q '^listening' "$work/said"; do
