@@ -1,5 +1,14 @@
 -- Cutting at a separator.
-use Rattle.cap_text.proofs.Prelude.{◌≡◌, ℕ, zero, suc, ◌+◌, ◌-◌, ◌<◌, ◌≤◌, List, [], ◌∷◌, ◌++◌, length, get_or, take, drop, length-drop, length-append, take-append-drop, Bool, true, false, cond, eqb, Some, None, refl, sym, ap, ◌∙◌, arith, eq-eqb, not, position, position_or_len, slice_split, All, lines, strip_carriage_return, lines_of_parts, take_all, drop_more, append_cancel_left, eqb-true, not-true, nat_tests, position-Some, AllPass-from_list_all, fails_before_first, slice_split_at, slice_split_none, length-slice_split, lacks, IsCut}
+use Rattle.cap_text.proofs.Prelude.{◌≡◌, ℕ, zero, suc, ◌+◌, ◌-◌, ◌<◌, ◌≤◌, List, [], ◌∷◌, ◌++◌, length, get_or, take, drop, length-drop, length-append, take-append-drop, Bool, true, false, cond, eqb, Some, None, Option, refl, sym, ap, ◌∙◌, arith, eq-eqb, not, position, position_or_len, slice_split, All, lines, strip_carriage_return, lines_of_parts, take_all, drop_more, append_cancel_left, eqb-true, not-true, nat_tests, position-Some, AllPass-from_list_all, fails_before_first, slice_split_at, slice_split_none, length-slice_split, lacks, IsCut, IsFirstByte, is_byte, position_or_len_is, false_from_ne_true}
+
+-- the first place of a byte is its `position`
+pub first_byte : (byte : ℕ) (bytes : List ℕ) (r : Option ℕ) → IsFirstByte (is_byte byte) bytes r → r ≡ position (λ b. eqb b byte) bytes
+first_byte byte bytes None none =
+    let end = position_or_len_is (is_byte byte) bytes (length bytes) 0 (omega arith) (λ k l. false_from_ne_true _ (none k (omega arith) l)) (λ l. absurd (omega (arith, l))) in
+    rw end (grind (arith, nat_tests))
+first_byte byte bytes (Some k) (before, here) =
+    let at = position_or_len_is (is_byte byte) bytes k 0 (omega (arith, before.high)) (λ j l. false_from_ne_true _ (before.before j (omega arith) l)) (λ l. here) in
+    rw at (grind (arith, nat_tests, before.high))
 
 -- what a slice from a place on is
 pub rest_all : (bytes : List ℕ) (n : ℕ) → take (length bytes - n) (drop n bytes) ≡ drop n bytes

@@ -4,6 +4,8 @@ ghost use Rattle.std.specs.List.{position};
 ghost use Rattle.std.specs.Option.{option_map};
 ghost use Rattle.cap_text.specs.Pieces.{parts_at, IsCut, lacks};
 
+use memchr::memchr;
+
 /// The bytes before the first `separator` and those after it. None where there is no such byte.
 pub fn split_once(bytes: &[u8], separator: u8) -> Option<(&[u8], &[u8])>
     ensures parts { option_map (λ p. (p.0.now, p.1.now)) result ≡ parts_at separator bytes.now }
@@ -20,5 +22,5 @@ pub fn split_once(bytes: &[u8], separator: u8) -> Option<(&[u8], &[u8])>
 fn position_of(bytes: &[u8], separator: u8) -> Option<usize>
     ensures { result ≡ position (λ b. b == separator) bytes.now }
 {
-    bytes.iter().position(|byte| *byte == separator)
+    memchr(separator, bytes)
 }
