@@ -16,7 +16,7 @@ use crate::faults::{CallFault, CommitFault, Fault};
 use crate::history::{Mark, View};
 use crate::passes::{Pass, Word};
 use crate::seat::{Naming, Seat};
-use crate::turnstile::{Place, Turnstile};
+use crate::turnstile::{Standing, Turnstile};
 use crate::word_rule::{Compares, Handover, JournalRule};
 use atomic_table::Table;
 use bumpalo::Bump;
@@ -58,7 +58,7 @@ pub struct Hold<'a, J: Naming> {
     alloc: Global,
     word: &'a Word,
     desk: MutexGuard<'a, Desk<J>>,
-    place: Option<MutexGuard<'a, Place>>,
+    standing: Standing<'a>,
     ghost named: { word.now.table_id ≡ J.table },
     ghost some: { 0 < word.now.table_id.words },
 }
@@ -69,10 +69,10 @@ impl<'a, J: Naming> Drop for Hold<'a, J> {
             alloc: _,
             word: _,
             desk,
-            place,
+            standing,
         } = self;
         drop(desk);
-        drop(place);
+        drop(standing);
     }
 }
 
@@ -140,6 +140,11 @@ impl<'a, J: Naming> Hold<'a, J> {
     pub fn entries(&self) -> usize {
         self.desk.entries()
     }
+
+    /// Whether this is to schedule, and another thread that schedules waited for the cluster or held it when this one came.
+    pub fn is_crowded(&self) -> bool {
+        self.standing.is_crowded()
+    }
 }
 
 impl<J: Naming> Shared<J> {
@@ -168,28 +173,25 @@ impl<J: Naming> Shared<J> {
         let place = self.turnstile.line_up(rt);
         let desk = self.desk.lock(rt);
         self.turnstile.has_entered();
-        self.held(desk, Some(place))
+        self.held(desk, Standing::Caller(place))
     }
 
     /// The same for a thread that schedules. It waits for a few calls of others at most, however many threads call.
     pub fn hold_to_schedule<R: Wait>(&self, rt: &R) -> Hold<'_, J> {
+        let scheduler = self.turnstile.scheduler();
         let place = self.turnstile.go_first(rt);
         let desk = self.turnstile.lock_to_schedule(rt, &self.desk);
         self.turnstile.has_gone(place);
-        self.held(desk, None)
+        self.held(desk, Standing::Scheduler(scheduler))
     }
 
     /// The cluster, held.
-    fn held<'a>(
-        &'a self,
-        desk: MutexGuard<'a, Desk<J>>,
-        place: Option<MutexGuard<'a, Place>>,
-    ) -> Hold<'a, J> {
+    fn held<'a>(&'a self, desk: MutexGuard<'a, Desk<J>>, standing: Standing<'a>) -> Hold<'a, J> {
         Hold {
             alloc: self.alloc,
             word: &self.table.shared,
             desk,
-            place,
+            standing,
         }
     }
 

@@ -8,7 +8,7 @@ use std::thread::Parker;
 #[derive(Drop)]
 pub(crate) struct Watch;
 
-/// What the worker has that takes turns alone.
+/// What the worker has that takes turns alone, or beside one other.
 #[derive(Drop)]
 pub(crate) struct Alone;
 
@@ -43,6 +43,9 @@ pub struct Coordinator {
     watch: Mutex<Watch>,
     /// Workers whose proposals were rejected take turns one at a time.
     alone: Mutex<Alone>,
+    /// Workers that have found others at the cluster all the time take turns two at a time: those of even numbers one after the other, and those
+    /// of odd numbers.
+    beside: [Mutex<Alone>; 2],
     /// The committer's end of the lanes, while its thread runs. Who has it takes proposals and commits them.
     lanes: Mutex<Option<Committer>>,
     /// Where the committer's thread waits.
@@ -57,6 +60,7 @@ impl Coordinator {
         Coordinator {
             watch: Mutex::new(Watch),
             alone: Mutex::new(Alone),
+            beside: [Mutex::new(Alone), Mutex::new(Alone)],
             lanes: Mutex::new(None),
             committer: Parker::new(),
             answers: [
@@ -80,6 +84,16 @@ impl Coordinator {
     /// Waits until no other worker takes turns alone.
     pub(crate) fn alone<R: Wait>(&self, rt: &R) -> MutexGuard<'_, Alone> {
         self.alone.lock(rt)
+    }
+
+    /// Waits until at most one other worker takes turns beside this one, of those that do so two at a time.
+    pub(crate) fn beside_one<R: Wait>(&self, rt: &R, worker: u32) -> MutexGuard<'_, Alone> {
+        let [even, odd] = &self.beside;
+        if worker % 2 == 0 {
+            even.lock(rt)
+        } else {
+            odd.lock(rt)
+        }
     }
 
     /// The committer's thread begins.

@@ -20,6 +20,17 @@ const CAREFUL_TURNS: u32 = 16;
 /// How many turns a worker takes before it looks again whether others wait.
 const TURNS_AT_ONCE: u32 = 1024;
 
+/// A worker looks at so many of its turns together, whether others that schedule were at the cluster when it came.
+const CROWD_LOOKS: u32 = 32;
+
+/// Where they were at so many of these, the cluster is held all the time, and a third worker at it makes no more grants.
+const CROWD: u32 = 28;
+
+/// How many turns a worker takes then two at a time with others: so many the first time, and twice as many each time after.
+const CROWDED_TURNS: u32 = 1024;
+
+const CROWDED_TURNS_MAX: u32 = 4096;
+
 /// Ends an epoch, and keeps those that have nothing to do until then.
 pub trait StopSignal {
     /// Whether those that schedule are to leave the epoch. Once it is raised it stays so until the epoch has ended.
@@ -38,6 +49,8 @@ enum Stop {
     Idle { entries: usize, at_once: bool },
     /// A proposal was rejected.
     Rejected,
+    /// Others are at the cluster all the time.
+    Crowded,
     /// The journal is full.
     Sealed,
     /// An allocation failed.
@@ -50,26 +63,78 @@ struct Pace {
     pause: u64,
     /// How many entries the journal had when the worker last found nothing to propose.
     idle_at: Option<usize>,
-    /// How many turns the worker still takes one at a time with others.
-    careful: u32,
+    /// The turns that the worker takes next.
+    next: Stretch,
+    /// How many it will take two at a time with others once these are at the cluster all the time.
+    crowded: u32,
+}
+
+/// How many turns a worker takes next, and how many workers take theirs with it.
+#[derive(Clone, Copy)]
+enum Stretch {
+    /// All that do so too, at once.
+    Free,
+    /// Those that take so many two at a time.
+    Paired(u32),
+    /// Those that take so many one at a time.
+    Careful(u32),
+}
+
+impl Stretch {
+    /// How many turns.
+    fn turns(self) -> u32 {
+        match self {
+            Stretch::Free => TURNS_AT_ONCE,
+            Stretch::Paired(turns) | Stretch::Careful(turns) => turns,
+        }
+    }
+
+    /// Whether the worker leaves it where others are at the cluster all the time.
+    fn is_free(self) -> bool {
+        match self {
+            Stretch::Free => true,
+            Stretch::Paired(_) | Stretch::Careful(_) => false,
+        }
+    }
+}
+
+/// At how many of its last turns a worker has found others at the cluster.
+#[derive(Clone, Copy)]
+struct Crowd {
+    looks: u32,
+    seen: u32,
+}
+
+impl Crowd {
+    fn new() -> Crowd {
+        Crowd { looks: 0, seen: 0 }
+    }
+
+    /// After one more turn, whether others are there all the time.
+    fn is_full_after(&mut self, is_crowded: bool) -> bool {
+        self.looks = self.looks.saturating_add(1);
+        self.seen = self.seen.saturating_add(is_crowded as u32);
+        let is_full = self.seen >= CROWD;
+        if is_full || self.looks >= CROWD_LOOKS {
+            *self = Crowd::new();
+        }
+        is_full
+    }
 }
 
 impl Pace {
     /// Of a worker that begins.
     fn new() -> Pace {
+        Pace::going_on(Stretch::Free, CROWDED_TURNS)
+    }
+
+    /// Of a worker that has found something to do.
+    fn going_on(next: Stretch, crowded: u32) -> Pace {
         Pace {
             pause: 1,
             idle_at: None,
-            careful: 0,
-        }
-    }
-
-    /// How many turns the worker takes next.
-    fn turns(&self) -> u32 {
-        if self.careful > 0 {
-            self.careful
-        } else {
-            TURNS_AT_ONCE
+            next,
+            crowded,
         }
     }
 
@@ -83,12 +148,14 @@ impl Pace {
     fn after<R: Wait + Clock, S: StopSignal>(&mut self, rt: &R, signal: &S, stop: Stop) -> bool {
         match stop {
             Stop::Sealed => return false,
-            Stop::Over => *self = Pace::new(),
+            Stop::Over if self.next.is_free() => *self = Pace::new(),
+            Stop::Over => *self = Pace::going_on(Stretch::Free, self.crowded),
             Stop::Rejected => {
-                *self = Pace {
-                    careful: CAREFUL_TURNS,
-                    ..Pace::new()
-                }
+                *self = Pace::going_on(Stretch::Careful(CAREFUL_TURNS), self.crowded);
+            }
+            Stop::Crowded => {
+                let more = self.crowded.saturating_mul(2).min(CROWDED_TURNS_MAX);
+                *self = Pace::going_on(Stretch::Paired(self.crowded), more);
             }
             Stop::Idle { entries, at_once } => {
                 if !at_once {
@@ -108,7 +175,7 @@ impl Pace {
 
 /// How a worker takes turns.
 trait Turns {
-    /// So many turns at most, until one stops the worker.
+    /// These turns at most, until one stops the worker.
     fn take<J: Naming, R: Wait, G: Gate, S: StopSignal>(
         &mut self,
         rt: &R,
@@ -117,7 +184,7 @@ trait Turns {
         signal: &S,
         gate: &G,
         worker: &mut Worker,
-        most: u32,
+        stretch: Stretch,
     ) -> Stop;
 }
 
@@ -177,17 +244,19 @@ impl Turns for Direct {
         signal: &S,
         gate: &G,
         worker: &mut Worker,
-        most: u32,
+        stretch: Stretch,
     ) -> Stop {
         let mut begun = worker.begin(rt, shared, seat, &mut self.room.arena, gate);
-        for turn in 1..most {
+        let mut crowd = Crowd::new();
+        for turn in 1..stretch.turns() {
+            let leaves = crowd.is_full_after(begun.is_crowded) && stretch.is_free();
             let proposal = match self.room.proposal(begun, turn == 1) {
                 Ok(proposal) => proposal,
                 Err(stop) => return stop,
             };
-            if signal.is_raised(rt) {
+            if leaves || signal.is_raised(rt) {
                 let _end = worker.commit(rt, shared, seat, gate, proposal);
-                return Stop::Over;
+                return if leaves { Stop::Crowded } else { Stop::Over };
             }
             let next = worker.go_on(rt, shared, seat, &mut self.room.arena, gate, proposal);
             let Next { end, begun: more } = next;
@@ -253,10 +322,12 @@ impl Turns for ByLane<'_> {
         signal: &S,
         gate: &G,
         worker: &mut Worker,
-        most: u32,
+        stretch: Stretch,
     ) -> Stop {
         let mut begun = worker.begin(rt, shared, seat, &mut self.room.arena, gate);
-        for turn in 1..most {
+        let mut crowd = Crowd::new();
+        for turn in 1..stretch.turns() {
+            let leaves = crowd.is_full_after(begun.is_crowded) && stretch.is_free();
             let proposal = match self.room.proposal(begun, turn == 1) {
                 Ok(proposal) => proposal,
                 Err(stop) => return stop,
@@ -270,8 +341,8 @@ impl Turns for ByLane<'_> {
                 CommitOutcome::Rejected => return Stop::Rejected,
                 CommitOutcome::Unmade => return Stop::NoMemory,
             }
-            if signal.is_raised(rt) {
-                return Stop::Over;
+            if leaves || signal.is_raised(rt) {
+                return if leaves { Stop::Crowded } else { Stop::Over };
             }
             begun = match next {
                 Some(begun) => begun,
@@ -305,13 +376,14 @@ fn schedule_by<J: Naming, R: Wait + Clock, G: Gate, S: StopSignal, T: Turns>(
                 continue;
             }
         }
-        let most = pace.turns();
-        let stop = if pace.careful > 0 {
-            let _alone = coordinator.alone(rt);
-            turns.take(rt, shared, seat, signal, gate, worker, most)
-        } else {
-            turns.take(rt, shared, seat, signal, gate, worker, most)
+        let stretch = pace.next;
+        let place = match stretch {
+            Stretch::Free => None,
+            Stretch::Paired(_) => Some(coordinator.beside_one(rt, worker.number)),
+            Stretch::Careful(_) => Some(coordinator.alone(rt)),
         };
+        let stop = turns.take(rt, shared, seat, signal, gate, worker, stretch);
+        drop(place);
         if !pace.after(rt, signal, stop) {
             return;
         }

@@ -76,8 +76,26 @@ pub(crate) struct Begun {
     pub choice: Result<Option<Proposal<RESOURCES>>, NoMemory>,
     /// How many entries the journal had when the cluster was copied.
     pub entries: usize,
+    /// Whether another that schedules was at the cluster when this worker came to copy it.
+    pub is_crowded: bool,
     /// Whether the arena was reset.
     pub reset: bool,
+}
+
+/// A copy of the cluster, if no allocation failed, and what was seen with it.
+#[derive(Drop)]
+struct Copied<'a> {
+    parts: Result<ClusterCopy<RESOURCES, &'a Bump>, NoMemory>,
+    entries: usize,
+    is_crowded: bool,
+}
+
+/// What a worker proposes on a copy of the cluster, if anything, and what was seen with the copy. An error means that an allocation failed.
+#[derive(Drop)]
+struct Choice {
+    proposal: Result<Option<Proposal<RESOURCES>>, NoMemory>,
+    entries: usize,
+    is_crowded: bool,
 }
 
 /// A turn that has ended, and the next, which has begun.
@@ -259,11 +277,12 @@ impl Worker {
     {
         let start = self.start;
         self.start = start.wrapping_add(1);
-        let (choice, entries) = choose(rt, held, seat, arena, gate, notices, self.number, start);
+        let choice = choose(rt, held, seat, arena, gate, notices, self.number, start);
         let reset = arena.reset().is_ok();
         Begun {
-            choice,
-            entries,
+            choice: choice.proposal,
+            entries: choice.entries,
+            is_crowded: choice.is_crowded,
             reset,
         }
     }
@@ -285,8 +304,7 @@ impl Worker {
     }
 }
 
-/// What a worker proposes on a copy of the cluster, which it drops, and how many entries the journal had when it was made. If an allocation fails
-/// there is none.
+/// What a worker proposes on a copy of the cluster, which it drops.
 fn choose<J: Naming, R: Wait, G: Gate>(
     rt: &R,
     held: Hold<'_, J>,
@@ -296,32 +314,44 @@ fn choose<J: Naming, R: Wait, G: Gate>(
     notices: &Notices<'_>,
     worker: u32,
     start: u32,
-) -> (Result<Option<Proposal<RESOURCES>>, NoMemory>, usize)
-    ensures { MatchResult result.0 (Chooses J.opening start seat.old seat.new)
+) -> Choice
+    ensures { MatchResult result.proposal (Chooses J.opening start seat.old seat.new)
         (λ _. seat.new ≡ seat.old) }
 {
-    let (copied, entries) = copy(held, seat, arena);
+    let Copied {
+        parts,
+        entries,
+        is_crowded,
+    } = copy(held, seat, arena);
     notices.notify(rt, gate);
-    let Ok(copied) = copied else {
-        return (Err(NoMemory), entries);
+    let Ok(copied) = parts else {
+        return Choice {
+            proposal: Err(NoMemory),
+            entries,
+            is_crowded,
+        };
     };
     let snapshot = copied.arrange();
-    (Ok(propose_on(&snapshot, gate, worker, start)), entries)
+    Choice {
+        proposal: Ok(propose_on(&snapshot, gate, worker, start)),
+        entries,
+        is_crowded,
+    }
 }
 
-/// Copies the cluster, and gives it back: the copy, and how many entries the journal had.
-fn copy<'a, J: Naming>(
-    held: Hold<'_, J>,
-    seat: &mut Seat<J>,
-    arena: &'a Bump,
-) -> (Result<ClusterCopy<RESOURCES, &'a Bump>, NoMemory>, usize)
-    ensures { MatchResult result.0
+/// Copies the cluster, and gives it back.
+fn copy<'a, J: Naming>(held: Hold<'_, J>, seat: &mut Seat<J>, arena: &'a Bump) -> Copied<'a>
+    ensures { MatchResult result.parts
         (λ copied. CopyIs J.opening seat.old seat.new (sight_of_copy resources copied))
         (λ _. seat.new ≡ seat.old) }
 {
     let mut held = held;
-    let copied = held.copy(arena, seat);
-    (copied, held.entries())
+    let parts = held.copy(arena, seat);
+    Copied {
+        parts,
+        entries: held.entries(),
+        is_crowded: held.is_crowded(),
+    }
 }
 
 /// What a worker proposes on a snapshot. It has no shared cluster here, so that it can hold none.
