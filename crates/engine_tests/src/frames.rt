@@ -25,11 +25,12 @@ enum Given {
     NoMemory,
 }
 
-/// What a framer gives next, which it shows before.
+/// What a framer gives next, which it shows before, and of which it says before whether it is nothing yet.
 fn next(framer: &mut Framer, wanted: &[u8]) -> Given {
     let is_wanted = framer.peek() == Some(wanted);
     let is_shown = framer.peek().is_some();
-    match framer.next() {
+    let is_at_rest = framer.is_at_rest();
+    let given = match framer.next() {
         Ok(None) if !is_shown => Given::Nothing,
         Ok(Some(payload)) if is_shown => {
             if payload.as_slice() == wanted && is_wanted {
@@ -41,6 +42,11 @@ fn next(framer: &mut Framer, wanted: &[u8]) -> Given {
         Ok(_) => Given::Other,
         Err(FrameFault::BadLength) => Given::BadLength,
         Err(FrameFault::NoMemory) => Given::NoMemory,
+    };
+    if is_at_rest == (given == Given::Nothing) {
+        given
+    } else {
+        Given::Other
     }
 }
 

@@ -3,6 +3,7 @@ mod epochs;
 mod offering;
 mod serving;
 mod sessions;
+mod starved;
 mod streams;
 mod turning;
 mod turns;

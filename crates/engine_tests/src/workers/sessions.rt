@@ -10,7 +10,7 @@ use std::sync::Wait;
 use std::test::*;
 
 /// One leaf queue.
-const ONE_QUEUE: &[u8] = b"yarn.scheduler.capacity.root.queues=default";
+pub const ONE_QUEUE: &[u8] = b"yarn.scheduler.capacity.root.queues=default";
 
 /// RegisterNode of `n1` in `/r1` with (8192, 8), call id 2, and then ClusterInfo, call id 3.
 const STREAM: &[u8] = &[
@@ -313,7 +313,7 @@ const SIX: &[u8] = &[
 ];
 
 /// A reply to ClusterInfo of a cluster with nothing in it, but for its call id.
-const NOTHING: [u8; 55] = [
+pub const NOTHING: [u8; 55] = [
     0, 0, 0, 51, 1, 10, 0, 0, 0, 0, 0, 0, 0, 0, 0, 0, 0, 0, 0, 0, 0, 0, 0, //
     0, 0, 0, 0, 0, 0, 0, 0, 0, 0, 0, 0, 0, 0, 0, 0, //
     0, 0, 0, 0, 0, 0, 0, 0, 0, 0, 0, 0, 0, 0, 0, 0,
