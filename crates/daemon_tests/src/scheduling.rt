@@ -172,7 +172,8 @@ fn each_proposal_is_committed(rt: HostRuntime) {
     assert!(rt; ended.is_some());
 }
 
-/// A master whose ask comes in the second epoch, and lets worker 0 alone go first.
+/// A master whose ask comes in the second epoch, and lets worker 0 alone go first. A heartbeat goes before it: its four calls have filled the first
+/// journal, so that once this is answered no worker is in the first epoch any more.
 #[derive(Drop)]
 struct LateMaster<'a> {
     gate: &'a OwnLanes,
@@ -185,8 +186,11 @@ impl Client for LateMaster<'_> {
     >(&self, rt: &H, alloc: Global, port: u16) -> io::Result<bool> {
         let stream = connect(rt, port)?;
         self.master.register(alloc, &stream)?;
+        let Some((0, response)) = self.master.ask(alloc, &stream, 0, &[])? else {
+            return Ok(false);
+        };
         self.gate.asked.reach(1);
-        let reply = self.master.ask(alloc, &stream, 0, TEN)?;
+        let reply = self.master.ask(alloc, &stream, response, TEN)?;
         self.master.is_told(rt, alloc, &stream, reply)
     }
 }
