@@ -10,10 +10,24 @@ build_capsched() {
   program=$top/crates/capsched/out/capsched
 }
 
-# builds engine_runs where it isn't built, and runs it
+# builds engine_runs where it isn't built or the sources that it stands on are newer
 build_engine_runs() {
-  (cd "$top/crates/engine_runs" && rt run <stdin >"$work/log" 2>&1) || { tail -n 5 "$work/log" >&2; exit 1; }
   program=$top/crates/engine_runs/out/engine_runs
+  local sources
+  sources=$(awk -F: -v top="$top" '
+    { needs[$1] = $2 }
+    END {
+      queue[count = 1] = "engine_runs"
+      for (i = 1; i <= count; i++) {
+        if (seen[queue[i]]++ || !(queue[i] in needs)) continue
+        print top "/crates/" queue[i] "/src"
+        more = split(needs[queue[i]], names, " ")
+        for (j = 1; j <= more; j++) queue[++count] = names[j]
+      }
+    }' "$top/crates.txt")
+  # shellcheck disable=SC2086
+  [ ! -x "$program" ] || [ -n "$(find $sources -name '*.rt' -newer "$program" -print -quit)" ] || return 0
+  (cd "$top/crates/engine_runs" && rt run <stdin >"$work/log" 2>&1) || { tail -n 5 "$work/log" >&2; exit 1; }
 }
 
 # runs a command three times: `best` is the least time in milliseconds

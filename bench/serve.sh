@@ -19,8 +19,8 @@ requests=1920000
 runs=5
 server=
 trap '[ -z "$server" ] || kill "$server" 2>/dev/null || true; rm -rf "$work"' EXIT
+build_engine_runs
 build_capsched
-(cd "$top/crates/engine_runs" && rt run <stdin >"$work/log" 2>&1) || { tail -n 5 "$work/log" >&2; exit 1; }
 rustc --edition 2021 -O -o "$work/load" "$top/bench/load.rs"
 
 # serve WORKERS CONNECTIONS LANES [JOURNAL], echo_back CONNECTIONS: begins a server on a free port
