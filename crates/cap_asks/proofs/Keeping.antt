@@ -1,5 +1,5 @@
 -- Asks in order of key: what putting one and counting one down do.
-use Rattle.cap_asks.proofs.Prelude.{◌≡◌, ℕ, zero, suc, ◌+◌, ◌-◌, ◌≤◌, ◌<◌, Bool, true, false, cond, List, [], ◌∷◌, length, take, refl, sym, ◌∙◌, ap, arith, add-one, length-set, Some, None, is_some, not, ◌&&◌, ◌||◌, ◌==◌, insert, remove, slice_set, slice_index_or, if◌then◌else◌, nat_lt, nat_eq, fold, fold_more, common_steps, nat_tests, Key, same_key, Ask, ask_at, without_key, with_ask, put_ask, take_one, same_key_is, same_key_itself, put_is_found, others_are_found, one_less, not_same_other, first_is, is_before, AreAfter, AreKept, IsKeyIndex, index_of, keys_max}
+use Rattle.cap_asks.proofs.Prelude.{◌≡◌, ℕ, zero, suc, ◌+◌, ◌-◌, ◌≤◌, ◌<◌, Bool, true, false, cond, List, [], ◌∷◌, length, take, refl, sym, ◌∙◌, ap, arith, add-one, length-set, Some, None, is_some, not, ◌&&◌, ◌||◌, ◌==◌, insert, remove, slice_set, slice_index_or, if◌then◌else◌, nat_lt, nat_eq, fold, fold_more, common_steps, nat_tests, Key, same_key, Ask, ask_at, without_key, with_ask, put_ask, take_one, same_key_is, same_key_itself, put_is_found, others_are_found, one_less, not_same_other, first_is, is_before, AreAfter, AreKept, IsKeyIndex, index_of, key_slot, keys_max, All, All-head, All-more, All-tail, All-weaker, get_or-set_other, get_or-set_same, subst}
 use mir.Val.{bool_byte}
 
 -- the order of keys in numbers
@@ -528,7 +528,7 @@ counted_once ask xs k = by (is_some (ask_at ask.key xs)) (ask.count == 0) refl r
 
 pub count_next : (kept asks : List Ask) (i : ℕ) (ask : Ask) (key : Key) (count n : ℕ) (stood : Bool) → AreKept kept → i < length asks → ask ≡ slice_index_or asks i ask → key ≡ ask.key
     → n ≡ length (put_all kept (take i asks)) → stood ≡ is_some (ask_at key (put_all kept (take i asks))) → count ≡ ask.count
-    → n + bool_byte (not (count == 0)) - bool_byte stood ≡ length (put_all kept (take (i + 1) asks))
+    → n + bool_byte (not (count == 0)) ≡ length (put_all kept (take (i + 1) asks)) + bool_byte stood
 count_next kept asks i ask key count n stood k below item key_is n_is stood_is count_is =
     let before = put_all kept (take i asks) in
     let once = counted_once ask before (kept_all kept (take i asks) k) in
@@ -536,6 +536,43 @@ count_next kept asks i ask key count n stood k below item key_is n_is stood_is c
     let s = ap bool_byte (stood_is ∙ ap (λ j. is_some (ask_at j before)) key_is) in
     let t = ap (λ m. bool_byte (not (m == 0))) count_is in
     omega (arith, once, next, s, t, n_is)
+
+-- the slot of an ask is taken, and those of several are
+abbrev IsTakenIn : List Bool → Ask → Type 0
+IsTakenIn taken ask = slice_index_or taken (key_slot ask.key) false ≡ true
+
+abbrev pub AreTaken : List Bool → List Ask → Type 0
+AreTaken taken asks = All (IsTakenIn taken) asks
+
+-- one of another slot has another key
+other_slot : (key : Key) (taken : List Bool) (ask : Ask) → slice_index_or taken (key_slot key) false ≡ false → slice_index_or taken (key_slot ask.key) false ≡ true → same_key ask.key key ≡ false
+other_slot key taken ask free is = by (same_key ask.key key) refl
+  where
+    by : (b : Bool) → same_key ask.key key ≡ b → b ≡ false
+    by true e = absurd (cc (sym free ∙ ap (λ k. slice_index_or taken (key_slot k) false) (sym (same_key_is ask.key key e)) ∙ is))
+    by false e = refl
+
+-- a key whose slot none of them has stands as before them
+pub untouched : (key : Key) (taken : List Bool) (kept asks : List Ask) → slice_index_or taken (key_slot key) false ≡ false → AreTaken taken asks → ask_at key (put_all kept asks) ≡ ask_at key kept
+untouched key taken kept [] free are = refl
+untouched key taken kept (ask ∷ asks) free are =
+    untouched key taken (put_ask ask kept) asks free (All-tail (IsTakenIn taken) ask asks are) ∙ others_are_found key ask kept (other_slot key taken ask free (All-head (IsTakenIn taken) ask asks are))
+
+-- one more slot is taken
+still_taken : (taken : List Bool) (slot j : ℕ) → slot < length taken → slice_index_or taken j false ≡ true → slice_index_or (slice_set taken slot true) j false ≡ true
+still_taken taken slot j within is = by (nat_eq j slot) refl
+  where
+    by : (b : Bool) → nat_eq j slot ≡ b → slice_index_or (slice_set taken slot true) j false ≡ true
+    by true e = let same : j ≡ slot = grind (arith, nat_tests, e) in ap (λ k. slice_index_or (slice_set taken slot true) k false) same ∙ get_or-set_same taken slot true false within
+    by false e = get_or-set_other taken slot j true false (grind (arith, nat_tests, e)) ∙ is
+
+pub taken_next : (taken : List Bool) (asks : List Ask) (i slot : ℕ) (ask : Ask) → i < length asks → ask ≡ slice_index_or asks i ask → slot ≡ key_slot ask.key → slot < length taken
+    → AreTaken taken (take i asks) → AreTaken (slice_set taken slot true) (take (i + 1) asks)
+taken_next taken asks i slot ask below item is within are =
+    let after = slice_set taken slot true in
+    All-more (IsTakenIn after) asks i ask below
+      (All-weaker (IsTakenIn taken) (IsTakenIn after) (λ (a : Ask) h. still_taken taken slot (key_slot a.key) within h) (take i asks) are)
+      (subst (IsTakenIn after) item (ap (λ k. slice_index_or after k false) (sym is) ∙ get_or-set_same taken slot true false within))
 
 pub byte_few : (b : Bool) → bool_byte b ≤ 1
 byte_few true = omega arith

@@ -2,8 +2,8 @@
 pub use Rattle.std.proofs.Common.{Bool, List, [], add-one, ap, arith, cond, drop, false, get_or, inl, inr, is_some, length, length-append, length-drop, length-set, length-take, map, min, nat_cmp, refl, subst, suc, sym, take, true, zero, ℕ, ◌++◌, ◌+◌, ◌-◌, ◌/◌, ◌<◌, ◌∙◌, ◌∷◌, ◌≡◌, ◌≢◌, ◌≤◌}
 pub use Rattle.std.proofs.lemmas.Bool.Decides.{nat_tests}
 pub use Rattle.std.proofs.lemmas.Grind.{common_steps}
-pub use Rattle.std.proofs.lemmas.List.{append_cancel_left, drop-drop, drop_min, get_or-set_other, get_or-set_same, length-map, map_push, take_at, take_min, take_more}
-pub use Rattle.std.proofs.lemmas.List.Elements.{All-push}
+pub use Rattle.std.proofs.lemmas.List.{append_cancel_left, drop-drop, drop_min, get_or-set_other, get_or-set_same, length-map, length-replicate, map_push, take_at, take_min, take_more}
+pub use Rattle.std.proofs.lemmas.List.Elements.{All-head, All-more, All-nil, All-push, All-tail, All-weaker}
 pub use Rattle.std.proofs.lemmas.List.Sorted.{searched}
 pub use Rattle.std.proofs.lemmas.List.Sums.{fold_more}
 pub use Rattle.std.proofs.lemmas.Map.{lookup-set_value}
@@ -17,7 +17,7 @@ pub use Rattle.std.specs.Map.{lookup, remove_entry, set_value}
 pub use Rattle.std.specs.Option.{option_map_or}
 pub use Rattle.std.specs.Prelude.{Box, Err, IfSome, IsSome, None, Ok, OnOk, Option, Result, Some, filter, find, if◌then◌else◌, insert, nat_eq, nat_lt, not, option_and_then, option_map, remove, slice_index_or, slice_set, ◌&&◌, ◌==◌, ◌||◌}
 pub use Rattle.std.specs.declared.cmp.Ordering.TheVariants.{Greater}
-pub use Rattle.cap_asks.specs.Accounts.{Account, AreAfter, AreKept, HasRoom, HeldApp, HeldAsks, HeldNews, IsKeyIndex, TakesRoom, index_of, is_before}
+pub use Rattle.cap_asks.specs.Accounts.{Account, AreAfter, AreKept, HasRoom, HeldApp, HeldAsks, HeldNews, IsKeyIndex, TakesRoom, index_of, is_before, key_slot}
 pub use Rattle.cap_asks.specs.Apps.{AreIndexed, AreNumbered, HasRooms, IsEntered, IsLeft, UsesRoom, account_of, entries_at, held_at, is_waiting, new_account, nobody, with_entry, without_entry, waiting_of}
 pub use Rattle.cap_base.proofs.lists.Filters.{length-kept}
 pub use Rattle.cap_base.proofs.lists.Members.{of_filter}

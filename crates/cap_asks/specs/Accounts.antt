@@ -1,5 +1,5 @@
 -- What an application holds in memory: its row in the flat cluster, and what it keeps beside it.
-use Rattle.std.specs.Prelude.{◌≡◌, ℕ, ◌+◌, ◌≤◌, Bool, true, is_some, List, [], ◌∷◌, Option, None, option_map, if◌then◌else◌}
+use Rattle.std.specs.Prelude.{◌≡◌, ℕ, ◌+◌, ◌*◌, ◌%◌, ◌≤◌, Bool, true, is_some, List, [], ◌∷◌, Option, None, option_map, if◌then◌else◌}
 use Rattle.std.specs.Ordering.{is_lt}
 use Rattle.cap_model.specs.declared.ask.Key.{Key}
 use Rattle.cap_model.specs.Asks.{ask_key_cmp, Ask}
@@ -37,6 +37,10 @@ pub record HeldApp : Type 0 where
 -- one key stands before another
 abbrev pub is_before : Key → Key → Bool
 is_before a b = is_lt (ask_key_cmp a b)
+
+-- the slot of a key
+abbrev pub key_slot : Key → ℕ
+key_slot key = (key.priority * 257 + key.request) % 4096
 
 -- asks of keys that are all greater than one
 abbrev pub AreAfter : Key → List Ask → Type 0

@@ -5,7 +5,7 @@ ghost use Rattle.cap_model.specs.Flat.{ask_at};
 ghost use Rattle.cap_model.specs.Asking.{put_ask};
 ghost use Rattle.cap_base.specs.Limits.{keys_max};
 ghost use Rattle.cap_model.specs.Events.{take_one};
-ghost use Rattle.cap_asks.specs.Accounts.{AreKept, is_before, IsKeyIndex};
+ghost use Rattle.cap_asks.specs.Accounts.{AreKept, is_before, IsKeyIndex, key_slot};
 
 use cap_model::{Ask, Key, NoMemory};
 use std::alloc::Global;
@@ -13,6 +13,9 @@ use std::marker::Model;
 
 /// The greatest number of keys of one application.
 const KEYS_MAX: u128 = 256;
+
+/// How many slots keys have (`slot_of`).
+const SLOTS: usize = 4096;
 
 /// The asks of one application in order of key, each for at least one container. Contracts see their list, and how many more
 /// keys fit with no memory.
@@ -159,7 +162,8 @@ impl<const K: usize> Asks<K> {
     }
 
     /// Whether there would be more keys than allowed after these asks were put, one after the other. It looks at them only where the
-    /// asks, old and new, are more than that many.
+    /// asks, old and new, are more than that many. It costs a binary search for each, and a look at all before it for one whose key has
+    /// the slot of an earlier one.
     pub(crate) fn has_too_many_keys(&self, asks: &[Ask<K>]) -> bool
         ensures { result ≡ nat_lt keys_max
             (length (fold (λ kept ask. put_ask ask kept) self.now.asks asks.now)) }
@@ -168,8 +172,13 @@ impl<const K: usize> Asks<K> {
         if count + asks.len() as u128 <= KEYS_MAX {
             return false;
         }
+        let mut is_taken = [false; SLOTS];
         for (i, ask) in asks.iter().enumerate() {
-            let stood = self.stands_after(&asks[..i], &ask.key());
+            let key = ask.key();
+            let slot = slot_of(&key);
+            let earlier = if is_taken[slot] { &asks[..i] } else { &asks[..0] };
+            is_taken[slot] = true;
+            let stood = self.stands_after(earlier, &key);
             let stands = ask.count() != 0;
             count = count + stands as u128 - stood as u128;
         }
@@ -182,4 +191,12 @@ fn is_before(a: &Key, b: &Key) -> bool
     ensures { result ≡ is_before a.now b.now }
 {
     a.priority < b.priority || a.priority == b.priority && a.request < b.request
+}
+
+/// The slot of a key: keys of one slot may be the same, those of two slots are not. Keys whose priorities and request ids are each in a row
+/// of their own mostly have slots of their own.
+fn slot_of(key: &Key) -> usize
+    ensures { result ≡ key_slot key.now }
+{
+    ((key.priority as u128 * 257 + key.request as u128) % SLOTS as u128) as usize
 }

@@ -208,7 +208,10 @@ impl<const K: usize, A: Allocator> Queue<K, A> {
     pub fn user_use(&self, user: &ShortText) -> Sum<K>
         ensures { result ≡ use_of K (user_row user.now self.now.users) }
     {
-        self.user(user).used
+        match row_of(&self.users, user) {
+            None => Sum::zero(),
+            Some(count) => count.used,
+        }
     }
 
     /// How many applications of a user are active in it: 0 where the user has no row.

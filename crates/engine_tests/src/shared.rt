@@ -1,4 +1,5 @@
 //! A cluster that threads share: what their calls are answered, and what its journal and its receipts say.
 mod audit;
+mod crowd;
 mod steps;
 mod tests;

@@ -79,7 +79,7 @@ fn served<H: Wait>(rt: &H, alloc: Global, sink: &mut Sink) -> Option<(Ending, us
     Some((line.endings.last?, line.entries))
 }
 
-/// The calls of the second piece are read together, and made in one hold of the cluster as far as they find memory.
+/// The calls of the second piece are read together; each that finds memory is made.
 #[test]
 fn calls_behind_one_that_finds_no_memory_are_made(rt: HostRuntime) {
     let wanted = starved(rt.alloc()).expect(&rt, "no memory");

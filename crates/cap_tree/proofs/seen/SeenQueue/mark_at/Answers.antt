@@ -1,4 +1,4 @@
-use Rattle.cap_tree.proofs.Prelude.{ap, ◌∙◌, ◌≡◌, ℕ, cond, sym, ◌==◌, eq-eqb, ne_eqb, SeenQueue, waiting_at}
+use Rattle.cap_tree.proofs.Prelude.{ap, ◌∙◌, ◌≡◌, cond, sym, ◌==◌, eq-eqb, ne_eqb, waiting_at}
 use Rattle.cap_tree.proofs.seen.SeenQueue.mark_at.Goals.{then-self-eq0, else-self-eq0}
 use Rattle.cap_tree.proofs.seen.SeenQueue.mark_at.Goals as goal
 
