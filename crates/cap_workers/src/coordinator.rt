@@ -43,8 +43,7 @@ pub struct Coordinator {
     watch: Mutex<Watch>,
     /// Workers whose proposals were rejected take turns one at a time.
     alone: Mutex<Alone>,
-    /// Workers that have found others at the cluster all the time take turns two at a time: those of even numbers one after the other, and those
-    /// of odd numbers.
+    /// Workers that have found others at the cluster all the time take turns two at a time: each while it has one of these.
     beside: [Mutex<Alone>; 2],
     /// The committer's end of the lanes, while its thread runs. Who has it takes proposals and commits them.
     lanes: Mutex<Option<Committer>>,
@@ -86,13 +85,21 @@ impl Coordinator {
         self.alone.lock(rt)
     }
 
-    /// Waits until at most one other worker takes turns beside this one, of those that do so two at a time.
+    /// Waits until at most one other worker takes turns beside this one, of those that do so two at a time. Where two do, those of even numbers
+    /// wait for one of them, and those of odd numbers for the other.
     pub(crate) fn beside_one<R: Wait>(&self, rt: &R, worker: u32) -> MutexGuard<'_, Alone> {
         let [even, odd] = &self.beside;
-        if worker % 2 == 0 {
-            even.lock(rt)
+        let (own, other) = if worker % 2 == 0 {
+            (even, odd)
         } else {
-            odd.lock(rt)
+            (odd, even)
+        };
+        if let Some(place) = own.try_lock() {
+            return place;
+        }
+        match other.try_lock() {
+            Some(place) => place,
+            None => own.lock(rt),
         }
     }
 

@@ -211,7 +211,7 @@ impl Room {
         match begun.choice {
             Ok(Some(proposal)) => Ok(proposal),
             Ok(None) => Err(Stop::Idle {
-                entries: begun.entries,
+                entries: begun.seen.entries,
                 at_once,
             }),
             Err(NoMemory) => Err(Stop::NoMemory),
@@ -249,7 +249,7 @@ impl Turns for Direct {
         let mut begun = worker.begin(rt, shared, seat, &mut self.room.arena, gate);
         let mut crowd = Crowd::new();
         for turn in 1..stretch.turns() {
-            let leaves = crowd.is_full_after(begun.is_crowded) && stretch.is_free();
+            let leaves = crowd.is_full_after(begun.seen.is_crowded) && stretch.is_free();
             let proposal = match self.room.proposal(begun, turn == 1) {
                 Ok(proposal) => proposal,
                 Err(stop) => return stop,
@@ -327,7 +327,7 @@ impl Turns for ByLane<'_> {
         let mut begun = worker.begin(rt, shared, seat, &mut self.room.arena, gate);
         let mut crowd = Crowd::new();
         for turn in 1..stretch.turns() {
-            let leaves = crowd.is_full_after(begun.is_crowded) && stretch.is_free();
+            let leaves = crowd.is_full_after(begun.seen.is_crowded) && stretch.is_free();
             let proposal = match self.room.proposal(begun, turn == 1) {
                 Ok(proposal) => proposal,
                 Err(stop) => return stop,
@@ -382,6 +382,9 @@ fn schedule_by<J: Naming, R: Wait + Clock, G: Gate, S: StopSignal, T: Turns>(
             Stretch::Paired(_) => Some(coordinator.beside_one(rt, worker.number)),
             Stretch::Careful(_) => Some(coordinator.alone(rt)),
         };
+        if place.is_some() && signal.is_raised(rt) {
+            return;
+        }
         let stop = turns.take(rt, shared, seat, signal, gate, worker, stretch);
         drop(place);
         if !pace.after(rt, signal, stop) {

@@ -74,28 +74,18 @@ pub struct Offer {
 pub(crate) struct Begun {
     /// What is proposed, if anything. An error means that an allocation failed.
     pub choice: Result<Option<Proposal<RESOURCES>>, NoMemory>,
-    /// How many entries the journal had when the cluster was copied.
-    pub entries: usize,
-    /// Whether another that schedules was at the cluster when this worker came to copy it.
-    pub is_crowded: bool,
+    pub seen: Seen,
     /// Whether the arena was reset.
     pub reset: bool,
 }
 
-/// A copy of the cluster, if no allocation failed, and what was seen with it.
-#[derive(Drop)]
-struct Copied<'a> {
-    parts: Result<ClusterCopy<RESOURCES, &'a Bump>, NoMemory>,
-    entries: usize,
-    is_crowded: bool,
-}
-
-/// What a worker proposes on a copy of the cluster, if anything, and what was seen with the copy. An error means that an allocation failed.
-#[derive(Drop)]
-struct Choice {
-    proposal: Result<Option<Proposal<RESOURCES>>, NoMemory>,
-    entries: usize,
-    is_crowded: bool,
+/// What a worker sees of the cluster while it copies it.
+#[derive(Clone, Copy)]
+pub(crate) struct Seen {
+    /// How many entries the journal has.
+    pub entries: usize,
+    /// Whether another that schedules was at the cluster when this worker came.
+    pub is_crowded: bool,
 }
 
 /// A turn that has ended, and the next, which has begun.
@@ -277,12 +267,11 @@ impl Worker {
     {
         let start = self.start;
         self.start = start.wrapping_add(1);
-        let choice = choose(rt, held, seat, arena, gate, notices, self.number, start);
+        let (choice, seen) = choose(rt, held, seat, arena, gate, notices, self.number, start);
         let reset = arena.reset().is_ok();
         Begun {
-            choice: choice.proposal,
-            entries: choice.entries,
-            is_crowded: choice.is_crowded,
+            choice,
+            seen,
             reset,
         }
     }
@@ -304,7 +293,7 @@ impl Worker {
     }
 }
 
-/// What a worker proposes on a copy of the cluster, which it drops.
+/// What a worker proposes on a copy of the cluster, which it drops, and what it sees while it copies. If an allocation fails there is no proposal.
 fn choose<J: Naming, R: Wait, G: Gate>(
     rt: &R,
     held: Hold<'_, J>,
@@ -314,44 +303,36 @@ fn choose<J: Naming, R: Wait, G: Gate>(
     notices: &Notices<'_>,
     worker: u32,
     start: u32,
-) -> Choice
-    ensures { MatchResult result.proposal (Chooses J.opening start seat.old seat.new)
+) -> (Result<Option<Proposal<RESOURCES>>, NoMemory>, Seen)
+    ensures { MatchResult result.0 (Chooses J.opening start seat.old seat.new)
         (λ _. seat.new ≡ seat.old) }
 {
-    let Copied {
-        parts,
-        entries,
-        is_crowded,
-    } = copy(held, seat, arena);
+    let (copied, seen) = copy(held, seat, arena);
     notices.notify(rt, gate);
-    let Ok(copied) = parts else {
-        return Choice {
-            proposal: Err(NoMemory),
-            entries,
-            is_crowded,
-        };
+    let Ok(copied) = copied else {
+        return (Err(NoMemory), seen);
     };
     let snapshot = copied.arrange();
-    Choice {
-        proposal: Ok(propose_on(&snapshot, gate, worker, start)),
-        entries,
-        is_crowded,
-    }
+    (Ok(propose_on(&snapshot, gate, worker, start)), seen)
 }
 
-/// Copies the cluster, and gives it back.
-fn copy<'a, J: Naming>(held: Hold<'_, J>, seat: &mut Seat<J>, arena: &'a Bump) -> Copied<'a>
-    ensures { MatchResult result.parts
+/// Copies the cluster, and gives it back: the copy, and what is seen with it.
+fn copy<'a, J: Naming>(
+    held: Hold<'_, J>,
+    seat: &mut Seat<J>,
+    arena: &'a Bump,
+) -> (Result<ClusterCopy<RESOURCES, &'a Bump>, NoMemory>, Seen)
+    ensures { MatchResult result.0
         (λ copied. CopyIs J.opening seat.old seat.new (sight_of_copy resources copied))
         (λ _. seat.new ≡ seat.old) }
 {
     let mut held = held;
-    let parts = held.copy(arena, seat);
-    Copied {
-        parts,
+    let copied = held.copy(arena, seat);
+    let seen = Seen {
         entries: held.entries(),
         is_crowded: held.is_crowded(),
-    }
+    };
+    (copied, seen)
 }
 
 /// What a worker proposes on a snapshot. It has no shared cluster here, so that it can hold none.
