@@ -1,12 +1,13 @@
 #!/usr/bin/env bash
-# Counts the instructions of works by valgrind's callgrind, from the difference of two sizes: a ClusterInfo on one of 16 connections, a heartbeat, an allocate
-# of 20 asks among 256 applications, a queue that is opened from its lines and shown, a Refresh of 1,024 queues; a turn of a worker (it copies, proposes and
-# commits) in a farm of 512 nodes, 64 leaf queues and 256 applications, one of 32 workers that all copy the same state first, one beside 10,000 masters that ask
-# for nothing, one that begins at a node that holds a reservation, one with 1,023 applications in 64 leaf queues and one in as many, one where each leaf queue's
-# user is at the limit, in the farm and with 1,023 leaf queues, and one where each node holds a reservation and 2,048 asks are open (nothing is admissible in the
-# last three: it copies and proposes); an application of 10,000 that ends; and a node that registers, among the first 128 and after 4,032 others. Prints them
-# a request, with those that clear and copy memory apart, of which callgrind counts about one a byte; fails where both together are past the bound beside each,
-# or more than so many times another work. Needs valgrind, a package of most distributions. Counts depend a little on the C library and the processor.
+# Counts the instructions of works by valgrind's callgrind, from the difference of two sizes: a ClusterInfo on one of 16 connections, a heartbeat, an
+# allocate of 20 asks among 256 applications, one of 256 that is refused, a queue that is opened from its lines and shown, a Refresh of 1,024 queues; a
+# turn of a worker (it copies, proposes and commits) in a farm of 512 nodes, 64 leaf queues and 256 applications, one of 32 workers that all copy the same
+# state first, one beside 10,000 masters that ask for nothing, one that begins at a node that holds a reservation, one with 1,023 applications in 64 leaf
+# queues and one in as many, one where each leaf queue's user is at the limit, in the farm and with 1,023 leaf queues, and one where each node holds a
+# reservation and 2,048 asks are open (nothing is admissible in the last three: it copies and proposes); an application of 10,000 that ends; and a node
+# that registers, among the first 128 and after 4,032 others. Prints them a request, with those that clear and copy memory apart, of which callgrind counts
+# about one a byte; fails where both together are past the bound beside each, or more than so many times another work. Needs valgrind, a package of most
+# distributions. Counts depend a little on the C library and the processor.
 . "$(dirname "${BASH_SOURCE[0]}")/common.sh"
 need_valgrind
 build_capsched
@@ -41,6 +42,25 @@ allocate() {
     for (k = 1; k <= 20; k++) asks = asks sprintf("%08x%016x%08x%016x%016x%s", 1, k, 2, 1024, 1, "012a")
     for (i = 0; i < n; i++) printf "bytes 1 000002be" "0103%08x" "%016x" "%08x" "0014" "%s" "0000\n", i, i % 256 + 1, int(i / 256), asks
   }'
+}
+
+# n allocates of 256 asks by an application that has as many: for other keys, the greatest first, so that they are refused
+refused_allocate() {
+  awk -v n="$1" '
+    function request(body) { printf "bytes 1 %08x%s\n", length(body) / 2, body }
+    function allocate(response, first, step,  body, k) {
+      body = sprintf("0103%08x%016x%08x0100", 1, 1, response)
+      for (k = 0; k < 256; k++) body = body sprintf("%08x%016x%08x%016x%016x%s", 1, first + step * k, 2, 1024, 1, "012a")
+      request(body "0000")
+    }
+    BEGIN {
+      print "conf yarn.scheduler.capacity.root.queues=a"
+      print "open 1"
+      request("010100000001" "06726f6f742e61" "027531")
+      request("010200000001" "0000000000000001")
+      allocate(0, 1, 1)
+      for (i = 0; i < n; i++) allocate(1, 512, -1)
+    }'
 }
 
 # n queues, in parents of 31 leaf queues, each with its capacity, and a QueueInfo for each
@@ -234,6 +254,7 @@ compare() {
 measure cluster_info 3000 3300 '^out [0-9]* 00000033010a'
 measure heartbeat 2000 4000 '^out 1 000000110106[0-9a-f]\{8\}00'
 measure allocate 1024 45000 '^out 1 0000000f0103[0-9a-f]\{8\}00'
+measure refused_allocate 128 350000 '^out 1 000000070103[0-9a-f]\{8\}0a'
 measure queue 480 40000 '^out 1 000000[0-9a-f]\{2\}0108[0-9a-f]\{8\}00'
 measure refresh 8 30000000 '^out 1 00000007010b[0-9a-f]\{8\}00'
 measure turn 512 220000 '^done 0 grant'

@@ -571,8 +571,8 @@ pub taken_next : (taken : List Bool) (asks : List Ask) (i slot : ℕ) (ask : Ask
 taken_next taken asks i slot ask below item is within are =
     let after = slice_set taken slot true in
     All-more (IsTakenIn after) asks i ask below
-      (All-weaker (IsTakenIn taken) (IsTakenIn after) (λ (a : Ask) h. still_taken taken slot (key_slot a.key) within h) (take i asks) are)
-      (subst (IsTakenIn after) item (ap (λ k. slice_index_or after k false) (sym is) ∙ get_or-set_same taken slot true false within))
+    (All-weaker (IsTakenIn taken) (IsTakenIn after) (λ (a : Ask) h. still_taken taken slot (key_slot a.key) within h) (take i asks) are)
+    (subst (IsTakenIn after) item (ap (λ k. slice_index_or after k false) (sym is) ∙ get_or-set_same taken slot true false within))
 
 pub byte_few : (b : Bool) → bool_byte b ≤ 1
 byte_few true = omega arith

@@ -176,7 +176,11 @@ impl<const K: usize> Asks<K> {
         for (i, ask) in asks.iter().enumerate() {
             let key = ask.key();
             let slot = slot_of(&key);
-            let earlier = if is_taken[slot] { &asks[..i] } else { &asks[..0] };
+            let earlier = if is_taken[slot] {
+                &asks[..i]
+            } else {
+                &asks[..0]
+            };
             is_taken[slot] = true;
             let stood = self.stands_after(earlier, &key);
             let stands = ask.count() != 0;
