@@ -9,6 +9,7 @@ use std::alloc::Global;
 impl<const K: usize> Cluster<K> {
     /// The reply in full, as one of its calls has just given it: the grants and ends of an Allocate are lent from where they lie, until
     /// the cluster changes.
+    #[inline(always)]
     pub fn view(&self, reply: &Reply<K>) -> ReplyView<'_, K>
         requires { HasNumbers self.now.flat reply.now }
         ensures { result ≡ full_reply self.now.flat reply.now }

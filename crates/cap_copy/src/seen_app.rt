@@ -84,6 +84,7 @@ impl<const K: usize> SeenApp<K> {
 
 /// The applications that wait, in their order, in one piece of memory, and the asks of all in another: of one application after the other,
 /// those of each in order of key. No reservation counts yet. An error means that an allocation failed.
+#[inline(never)]
 pub(crate) fn seen_apps<const K: usize, B: Allocator + Copy>(
     alloc: B,
     tree: &QueueTree<K, Global>,

@@ -42,6 +42,7 @@ impl<const K: usize> ReplyRoom<K> {
     }
 
     /// The reply, owned in this room. It takes no memory.
+    #[inline(always)]
     pub fn own(self, reply: &ReplyView<'_, K>) -> OwnedReply<K>
         requires { HasRoomFor reply.now self }
         ensures { result ≡ reply.now }
@@ -72,6 +73,7 @@ impl<const K: usize> ReplyRoom<K> {
 
 impl<const K: usize> ReplyWith<K, AllocateReply<K>> {
     /// The same reply, lent.
+    #[inline(always)]
     pub fn view(&self) -> ReplyView<'_, K>
         ensures { result ≡ self.now }
     {

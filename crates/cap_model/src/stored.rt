@@ -100,6 +100,7 @@ impl<const K: usize> StoredRequest<K> {
     }
 
     /// The same request: its lists are taken out of it, and one that stands behind a pointer is moved there whole. It takes no memory.
+    #[inline(always)]
     pub fn moved(
         alloc: Global,
         request: &mut Request<K>,

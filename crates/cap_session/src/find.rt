@@ -30,6 +30,7 @@ pub(crate) type Answered = Log<ReadPayload, Log<OwnedReply<RESOURCES>, ()>>;
 
 /// Finds the next request, and makes room for the reply to it. Each payload before it that is none is answered so, and a length
 /// that no frame has too. Where the session ends, `ended` says why then.
+#[inline(always)]
 pub(crate) fn find(
     alloc: Global,
     framer: &mut Framer,

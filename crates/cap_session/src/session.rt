@@ -158,6 +158,7 @@ impl Session {
     /// The next request of the stream. It is open until `answer` answers it, and no other may be open. Each payload before it that
     /// is no request is answered with status 41. At a length that no frame has the session ends, with a last reply of status 40;
     /// it ends with no reply where an allocation fails, and every later call answers `Ended` with the same cause.
+    #[inline(always)]
     pub fn next_request(&mut self) -> Next
         requires { self.old.opens ≡ [] }
         ensures gives { NextGives self.old self.new result }
@@ -187,6 +188,7 @@ impl Session {
     }
 
     /// Answers the first open request with a reply that is a refusal or one of its kind. It takes no memory and cannot fail.
+    #[inline(always)]
     pub fn answer(&mut self, reply: &OwnedReply<RESOURCES>)
         requires { MayAnswer self.old.opens reply.now }
         ensures answered { self.new ≡ after_answer self.old reply.now }
