@@ -1,4 +1,5 @@
-# What the scripts beside it share: a folder for their files, the best of three runs, a count of instructions, and the ratio of two times or counts.
+# What the scripts beside it share: a folder for their files, the best of three runs, runs that nobody disturbs, a count of instructions, and the ratio of
+# two times or counts.
 set -euo pipefail
 top=$(cd "$(dirname "${BASH_SOURCE[0]}")/.." && pwd)
 work=$(mktemp -d)
@@ -39,6 +40,23 @@ best_of_three() {
     ms=$((($(date +%s%N) - begin) / 1000000))
     if [ -z "$best" ] || [ "$ms" -lt "$best" ]; then best=$ms; fi
   done
+}
+
+# ticks: the processors' time that others on the same host took from this machine until now, and all of it
+ticks() { awk '/^cpu / { for (i = 2; i <= 9; i++) all += $i; print $9, all; exit }' /proc/stat; }
+
+# undisturbed WORDS..: runs them, and again, up to five times in all, where others took more than 1 % of the processors' time meanwhile. The last run counts.
+undisturbed() {
+  local before try
+  for try in 1 2 3 4 5; do
+    before=$(ticks)
+    "$@"
+    awk -v before="$before" -v after="$(ticks)" 'BEGIN {
+      split(before, b); split(after, a)
+      exit (a[1] - b[1]) * 100 > a[2] - b[2]
+    }' && return
+  done
+  echo "in each of $try runs of '$*' others took more than 1 % of the processors' time; the last counts"
 }
 
 # plays the script

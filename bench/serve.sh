@@ -12,7 +12,8 @@
 # where they make less than 0.9 of that through lanes, or where more than 0.2 proposals are rejected for each that is made. Last how much of a core the daemon
 # takes while nobody says anything, with 512 nodes: fails where one worker with 16 connections takes 1 % or more, or 8 workers with 128 take 5 % or more. And
 # whether all connections are still answered after the daemon was stopped and continued. A number as the argument is for how many seconds each cluster is
-# measured, 10 without. Figures depend on the machine, and on what else runs there. Needs rustc for the load.
+# measured, 10 without. Figures depend on the machine, and on what else runs there: a run in which others on the host took more than 1 % of the processors' time
+# is made again, up to five times in all. Needs rustc for the load.
 . "$(dirname "${BASH_SOURCE[0]}")/common.sh"
 seconds=${1:-10}
 requests=1920000
@@ -51,11 +52,16 @@ load() {
 # figure WORDS: the number before these words
 figure() { sed -n "s/^\([0-9]*\) $1.*/\1/p" "$work/loaded"; }
 
+# run_infos CONNECTIONS SERVER..: one run of ClusterInfos
+run_infos() {
+  port=$("$work/load" port)
+  "${@:2}"
+  load info "$port" "$1" 16 $((requests / $1))
+}
+
 # run_once FILE CONNECTIONS SERVER..: adds how many requests a second were answered in a run to the file, and the 99th percentile, in microseconds
 run_once() {
-  port=$("$work/load" port)
-  "${@:3}"
-  load info "$port" "$2" 16 $((requests / $2))
+  undisturbed run_infos "${@:2}"
   echo "$(figure 'requests a second') $(figure 'microseconds at the 99th')" >>"$1"
 }
 
@@ -98,9 +104,13 @@ for connections in 1 16 128; do
     changed "connections=$connections" "$journal"
   done
 done
-port=$("$work/load" port)
-serve 1 128 64
-load info "$port" 1 16 "$requests" 127
+# one that calls beside 127 that are quiet
+run_quiet_beside() {
+  port=$("$work/load" port)
+  serve 1 128 64
+  load info "$port" 1 16 "$requests" 127
+}
+undisturbed run_quiet_beside
 changes_of 4096
 changed "connections=128, 127 of them quiet" 4096
 
@@ -128,11 +138,16 @@ share() {
     awk -v ns="$copy_time" -v s="$seconds" '{ printf "%.0f %% of the time in copies that led to a proposal", ($1 + $2) * ns / s / 1e7 }'
 }
 
+# run_cluster WORKERS LANES: how such a cluster is scheduled
+run_cluster() {
+  port=$("$work/load" port)
+  serve "$1" 9 "$2"
+  load cluster "$port" 512 256 64 "$seconds"
+}
+
 for run in '1 0' '2 0' '4 0' '1 64' '2 64' '4 8' '4 64'; do
   read -r workers lanes <<<"$run"
-  port=$("$work/load" port)
-  serve "$workers" 9 "$lanes"
-  load cluster "$port" 512 256 64 "$seconds"
+  undisturbed run_cluster "$workers" "$lanes"
   slowest=$(figure 'microseconds at the 99th')
   grants=$(figure 'grants a second were')
   echo "workers=$workers lanes=$lanes: $grants grants a second, as masters were told"
@@ -146,11 +161,16 @@ for run in '1 0' '2 0' '4 0' '1 64' '2 64' '4 8' '4 64'; do
 done
 [ "$slowest" -le 60000 ] || { echo "with 4 workers a ClusterInfo takes more than 60000 us at the 99th percentile" >&2; broken=1; }
 
-# busy WORKERS LANES: how a busy cluster is scheduled: `grants` a second, and `rejected` for each proposal that was made
-busy() {
+# run_busy WORKERS LANES: one run of a busy cluster
+run_busy() {
   port=$("$work/load" port)
   serve "$1" 121 "$2"
   load busy "$port" 60 60 5 "$seconds"
+}
+
+# busy WORKERS LANES: how a busy cluster is scheduled: `grants` a second, and `rejected` for each proposal that was made
+busy() {
+  undisturbed run_busy "$1" "$2"
   grants=$(figure 'grants a second')
   read -r made rejected < <(sed -n 's/^proposals: \([0-9]*\) made, \([0-9]*\) rejected$/\1 \2/p' "$work/messages")
   rejected=$(awk -v made="$made" -v rejected="$rejected" 'BEGIN { printf "%.3f", rejected / (made > 0 ? made : 1) }')

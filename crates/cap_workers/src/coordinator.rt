@@ -45,7 +45,7 @@ pub struct Coordinator {
     alone: Mutex<Alone>,
     /// Workers that have found others at the cluster all the time take turns two at a time: each while it has one of these.
     beside: [Mutex<Alone>; 2],
-    /// The committer's end of the lanes, while its thread runs. Who has it takes proposals and commits them.
+    /// The committer's end of the lanes, while its thread runs. Who holds the cluster takes it for a while, and commits what it takes out of them.
     lanes: Mutex<Option<Committer>>,
     /// Where the committer's thread waits.
     committer: Parker,
@@ -109,7 +109,7 @@ impl Coordinator {
         *lanes = Some(committer);
     }
 
-    /// Waits until nobody else takes proposals out of the lanes: the committer's end of the lanes, if its thread runs.
+    /// The committer's end of the lanes, if its thread runs, for one that holds the cluster.
     pub(crate) fn lanes<R: Wait>(&self, rt: &R) -> MutexGuard<'_, Option<Committer>> {
         self.lanes.lock(rt)
     }

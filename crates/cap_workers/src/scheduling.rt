@@ -280,7 +280,8 @@ struct ByLane<'a> {
 }
 
 impl ByLane<'_> {
-    /// The answer to what the worker has put, and its next turn, if that has begun in the same hold of the cluster.
+    /// The answer to what the worker has put, and its next turn, if that has begun in the same hold of the cluster. Who holds the cluster commits all
+    /// that waits, so this waits at most until another that did so tells of it, or until the committer begins.
     fn settle<J: Naming, R: Wait, G: Gate>(
         &mut self,
         rt: &R,
@@ -289,27 +290,19 @@ impl ByLane<'_> {
         gate: &G,
         worker: &mut Worker,
     ) -> (CommitOutcome, Option<Begun>) {
-        for _ in rt.forever() {
-            let mut lanes = self.coordinator.lanes(rt);
-            if let Some(outcome) = self.side.answer(rt) {
-                return (outcome, None);
-            }
-            let Some(committer) = lanes.as_mut() else {
-                drop(lanes);
-                return (self.side.await_answer(rt), None);
-            };
-            let mut held = shared.hold_to_schedule(rt);
-            let notices = Notices {
-                outcomes: commit_waiting(rt, &mut held, seat, committer),
-                coordinator: Some(self.coordinator),
-            };
-            drop(lanes);
-            let begun = worker.begin_held(rt, held, seat, &mut self.room.arena, gate, &notices);
-            if let Some(outcome) = self.side.answer(rt) {
-                return (outcome, Some(begun));
-            }
-        }
-        unreachable!()
+        let mut held = shared.hold_to_schedule(rt);
+        let committed = commit_lanes(rt, &mut held, seat, self.coordinator);
+        let Some(committed) = committed else {
+            drop(held);
+            return (self.side.await_answer(rt), None);
+        };
+        let outcomes = committed.outcomes;
+        let notices = Notices {
+            outcomes,
+            coordinator: Some(self.coordinator),
+        };
+        let begun = worker.begin_held(rt, held, seat, &mut self.room.arena, gate, &notices);
+        (self.side.await_answer(rt), Some(begun))
     }
 }
 
@@ -454,9 +447,9 @@ pub fn schedule_by_lane<J: Naming, R: Wait + Clock, G: Gate, S: StopSignal>(
     coordinator.has_finished();
 }
 
-/// The committer commits what the workers put, in the order in which it is taken, until all workers have finished; those that wait for an answer
-/// take and commit meanwhile what waits, too. The cluster is held once for all that waits. What is taken once the journal is full is dropped, as is
-/// a proposal that an allocation fails for.
+/// The committer commits what the workers put, in the order in which it is taken, when it begins and whenever a worker has finished, until all have;
+/// in between, workers that wait for an answer take and commit what waits. What is taken once the journal is full is dropped, as is a proposal that an
+/// allocation fails for.
 pub fn commit_all<J: Naming, R: Wait, G: Gate>(
     rt: &R,
     shared: &Shared<J>,
@@ -467,31 +460,44 @@ pub fn commit_all<J: Naming, R: Wait, G: Gate>(
 ) {
     coordinator.open_lanes(rt, committer);
     for _ in rt.forever() {
-        let (outcomes, is_over) = commit_once(rt, shared, seat, coordinator);
-        coordinator.notify(rt, gate, &outcomes);
-        if is_over {
+        let mut held = shared.hold_to_schedule(rt);
+        let committed = commit_lanes(rt, &mut held, seat, coordinator);
+        drop(held);
+        let Some(committed) = committed else {
+            return;
+        };
+        coordinator.notify(rt, gate, &committed.outcomes);
+        if committed.is_over {
             return;
         }
-        if outcomes.iter().all(|outcome| outcome.is_none()) {
+        if committed.outcomes.iter().any(|outcome| outcome.is_none()) {
             coordinator.await_finished(rt);
         }
     }
 }
 
-/// Commits what waits in the lanes, and returns what came of it, and whether all workers have finished.
-fn commit_once<J: Naming, R: Wait>(
+/// What came of the proposals that waited in the lanes.
+#[derive(Clone, Copy)]
+struct Committed {
+    outcomes: Outcomes,
+    /// Whether all workers have finished.
+    is_over: bool,
+}
+
+/// Commits the proposals that wait in the lanes, whose ends lie with the coordinator once the committer has begun.
+fn commit_lanes<J: Naming, R: Wait>(
     rt: &R,
-    shared: &Shared<J>,
+    held: &mut Hold<'_, J>,
     seat: &mut Seat<J>,
     coordinator: &Coordinator,
-) -> (Outcomes, bool) {
+) -> Option<Committed> {
     let mut lanes = coordinator.lanes(rt);
-    let Some(committer) = lanes.as_mut() else {
-        return ([None; BATCH], true);
-    };
-    let mut held = shared.hold_to_schedule(rt);
-    let outcomes = commit_waiting(rt, &mut held, seat, committer);
-    (outcomes, committer.is_over())
+    let committer = lanes.as_mut()?;
+    let outcomes = commit_waiting(rt, held, seat, committer);
+    Some(Committed {
+        outcomes,
+        is_over: committer.is_over(),
+    })
 }
 
 /// How often the lanes are looked into while the cluster is held: for what each worker has put, and for its end.

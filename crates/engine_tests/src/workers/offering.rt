@@ -61,9 +61,9 @@ fn take_one<J: Naming, H: Wait>(
     Offered::Taken { worker, app, node }
 }
 
-/// Lanes of ten places. An error means that an allocation failed.
-fn ten_places(alloc: Global) -> Result<(Committer, Vec<Putter>), NoMemory> {
-    let (committer, putters) = lanes(alloc, 10)?;
+/// Lanes of 18 places, so that ten proposals and the ends of eight workers fit. An error means that an allocation failed.
+fn new_lanes(alloc: Global) -> Result<(Committer, Vec<Putter>), NoMemory> {
+    let (committer, putters) = lanes(alloc, 18)?;
     let Ok(putters) = Vec::from_array(alloc, putters) else {
         return Err(NoMemory);
     };
@@ -111,7 +111,7 @@ impl Offering {
 impl Work for Offering {
     fn work<J: Naming, H: Wait>(&self, rt: &H, shared: &Shared<J>, seat: Seat<J>) -> Seat<J> {
         let mut seat = seat;
-        let Ok((mut committer, mut putters)) = ten_places(self.alloc) else {
+        let Ok((mut committer, mut putters)) = new_lanes(self.alloc) else {
             return seat;
         };
         if let Some(own) = putters.first_mut() {
@@ -123,38 +123,49 @@ impl Work for Offering {
     fn finish<J: Naming, H: Wait>(&self, _rt: &H, _shared: &Shared<J>, _seat: &mut Seat<J>) {}
 }
 
-/// Two workers offer what they propose, all lanes end, and the committer commits what it takes until then.
+/// Two workers offer what they propose, each so often, all lanes end, and the committer commits what it takes until then.
 #[derive(Drop)]
 pub struct Committing {
     pub alloc: Global,
+    pub offers: usize,
     pub tally: Tally,
 }
 
-/// A worker of each lane up to two offers what it proposes.
-fn offer_two<J: Naming, H: Wait>(
-    rt: &H,
-    alloc: Global,
-    shared: &Shared<J>,
-    seat: &mut Seat<J>,
-    putters: &mut Vec<Putter>,
-) {
-    let mut arena = Bump::new(alloc);
-    for (number, putter) in [0, 1].into_iter().zip(putters.iter_mut()) {
+/// Puts the end of each lane.
+fn end_all<H: Wait>(rt: &H, putters: Vec<Putter>) {
+    for putter in putters {
+        let _ended = putter.finish(rt);
+    }
+}
+
+impl Committing {
+    /// A worker of this number offers what it proposes.
+    fn offer<J: Naming, H: Wait>(
+        &self,
+        rt: &H,
+        shared: &Shared<J>,
+        seat: &mut Seat<J>,
+        number: u32,
+        putter: &mut Putter,
+    ) {
         let mut worker = Worker::new(number);
-        let _offer = worker.offer(rt, shared, seat, putter, &mut arena, &OpenGate);
+        let mut arena = Bump::new(self.alloc);
+        for _ in 0..self.offers {
+            let _offer = worker.offer(rt, shared, seat, putter, &mut arena, &OpenGate);
+        }
     }
 }
 
 impl Work for Committing {
     fn work<J: Naming, H: Wait>(&self, rt: &H, shared: &Shared<J>, seat: Seat<J>) -> Seat<J> {
         let mut seat = seat;
-        let Ok((committer, mut putters)) = ten_places(self.alloc) else {
+        let Ok((committer, mut putters)) = new_lanes(self.alloc) else {
             return seat;
         };
-        offer_two(rt, self.alloc, shared, &mut seat, &mut putters);
-        for putter in putters {
-            let _ended = putter.finish(rt);
+        for (number, putter) in [0, 1].into_iter().zip(putters.iter_mut()) {
+            self.offer(rt, shared, &mut seat, number, putter);
         }
+        end_all(rt, putters);
         let coordinator = Coordinator::new();
         commit_all(rt, shared, &mut seat, &coordinator, &self.tally, committer);
         seat

@@ -128,17 +128,18 @@ fn an_offer_is_taken_by_the_committer(rt: HostRuntime) {
     assert!(rt; offers(&rt, rt.alloc()) == Some((2, 1)));
 }
 
-/// How many proposals of two workers a committer makes and rejects, and how many entries the journal has then. Both were put before it begins,
-/// on a cluster of so many nodes in which so many containers are asked for.
+/// How many proposals of two workers, so many of each, a committer makes and rejects, and how many entries the journal has then. All were put
+/// before it begins, on a cluster of two nodes in which so many containers are asked for.
 fn committed<H: Threads + Wait + Sync>(
     rt: &H,
     alloc: Global,
-    (nodes, count): (usize, u32),
+    (offers, count): (usize, u32),
     limit: usize,
 ) -> Option<(u64, u64, usize)> {
-    let cluster = filled(alloc, nodes, count)?;
+    let cluster = filled(alloc, 2, count)?;
     let committing = Committing {
         alloc,
+        offers,
         tally: Tally::new(),
     };
     let closed = epoch(rt, alloc, cluster, 1, limit, &committing)?;
@@ -148,8 +149,18 @@ fn committed<H: Threads + Wait + Sync>(
 
 #[test]
 fn the_committer_commits_each_proposal_that_it_takes(rt: HostRuntime) {
-    for &(count, limit, want) in &[(2, 100, (2, 0, 2)), (1, 100, (1, 1, 1)), (2, 1, (1, 0, 1))] {
-        let came = committed(&rt, rt.alloc(), (2, count), limit);
-        assert!(rt; came == Some(want), "{count} containers, {limit} entries");
+    let rows = [
+        (1, 2, 100, (2, 0, 2)),
+        (1, 1, 100, (1, 1, 1)),
+        (1, 2, 1, (1, 0, 1)),
+        (5, 10, 100, (10, 0, 10)),
+        (5, 9, 100, (9, 1, 9)),
+    ];
+    for &(offers, count, limit, want) in &rows {
+        let came = committed(&rt, rt.alloc(), (offers, count), limit);
+        assert!(rt;
+            came == Some(want),
+            "{offers} offers, {count} containers, {limit} entries"
+        );
     }
 }
