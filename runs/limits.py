@@ -138,6 +138,11 @@ def check_allocates(program):
     full, one_more = allocated(1, 0, asks[:256]), (sent(Allocate(1, 1, asks[256:])), [told(Allocate, 10)])
     in_place = allocated(1, 1, [Ask(1, 3, 0, SMALL), asks[256]])
     yield is_answered("256 keys", program, ONE_LEAF, [*entered(), full, one_more, in_place])
+    # the request ids 257 and 4,353 have one slot of the 4,096 by which keys are told apart first
+    away, put, taken, other = (Ask(1, request, count, SMALL) for request, count in ((3, 0), (257, 1), (257, 0), (4353, 1)))
+    two_more = (sent(Allocate(1, 1, [away, put, other])), [told(Allocate, 10)])
+    in_its_place = allocated(1, 1, [away, put, taken, other])
+    yield is_answered("256 keys, two of one slot", program, ONE_LEAF, [*entered(), full, two_more, in_its_place])
     yield is_answered("10,000 Allocates", program, ONE_LEAF, [*entered(), *(allocated(1, response) for response in range(10_000))])
 
 
