@@ -8,7 +8,7 @@ use std::thread::Parker;
 #[derive(Drop)]
 pub(crate) struct Watch;
 
-/// What the worker has that takes turns alone.
+/// What the worker has that takes turns alone, or beside one other.
 #[derive(Drop)]
 pub(crate) struct Alone;
 
@@ -41,8 +41,10 @@ impl Mailbox {
 pub struct Coordinator {
     /// One worker at a time looks whether there is something to do. The others that found nothing wait for it.
     watch: Mutex<Watch>,
-    /// Workers whose proposals were rejected, or that have found others at the cluster all the time, take turns one at a time.
+    /// Workers whose proposals were rejected take turns one at a time.
     alone: Mutex<Alone>,
+    /// Workers that have found others at the cluster all the time take turns two at a time: each while it has one of these.
+    beside: [Mutex<Alone>; 2],
     /// The committer's end of the lanes, while its thread runs. Who holds the cluster takes it for a while, and commits what it takes out of them.
     lanes: Mutex<Option<Committer>>,
     /// Where the committer's thread waits.
@@ -57,6 +59,7 @@ impl Coordinator {
         Coordinator {
             watch: Mutex::new(Watch),
             alone: Mutex::new(Alone),
+            beside: [Mutex::new(Alone), Mutex::new(Alone)],
             lanes: Mutex::new(None),
             committer: Parker::new(),
             answers: [
@@ -80,6 +83,24 @@ impl Coordinator {
     /// Waits until no other worker takes turns alone.
     pub(crate) fn alone<R: Wait>(&self, rt: &R) -> MutexGuard<'_, Alone> {
         self.alone.lock(rt)
+    }
+
+    /// Waits until at most one other worker takes turns beside this one, of those that do so two at a time. Where two do, those of even numbers
+    /// wait for one of them, and those of odd numbers for the other.
+    pub(crate) fn beside_one<R: Wait>(&self, rt: &R, worker: u32) -> MutexGuard<'_, Alone> {
+        let [even, odd] = &self.beside;
+        let (own, other) = if worker % 2 == 0 {
+            (even, odd)
+        } else {
+            (odd, even)
+        };
+        if let Some(place) = own.try_lock() {
+            return place;
+        }
+        match other.try_lock() {
+            Some(place) => place,
+            None => own.lock(rt),
+        }
     }
 
     /// The committer's thread begins.

@@ -23,10 +23,10 @@ const TURNS_AT_ONCE: u32 = 1024;
 /// A worker looks at so many of its turns together, whether others that schedule were at the cluster when it came.
 const CROWD_LOOKS: u32 = 32;
 
-/// Where they were at so many of these, the cluster is held all the time, and a second worker at it makes no more grants.
+/// Where they were at so many of these, the cluster is held all the time, and a third worker at it makes no more grants.
 const CROWD: u32 = 28;
 
-/// How many turns a worker takes then one at a time with others: so many the first time, and twice as many each time after.
+/// How many turns a worker takes then two at a time with others: so many the first time, and twice as many each time after.
 const CROWDED_TURNS: u32 = 1024;
 
 const CROWDED_TURNS_MAX: u32 = 4096;
@@ -65,7 +65,7 @@ struct Pace {
     idle_at: Option<usize>,
     /// The turns that the worker takes next.
     next: Stretch,
-    /// How many it will take one at a time with others once these are at the cluster all the time.
+    /// How many it will take two at a time with others once these are at the cluster all the time.
     crowded: u32,
 }
 
@@ -74,8 +74,10 @@ struct Pace {
 enum Stretch {
     /// All that do so too, at once.
     Free,
-    /// No other that does so, for so many.
-    Alone(u32),
+    /// Those that take so many two at a time.
+    Paired(u32),
+    /// Those that take so many one at a time.
+    Careful(u32),
 }
 
 impl Stretch {
@@ -83,7 +85,7 @@ impl Stretch {
     fn turns(self) -> u32 {
         match self {
             Stretch::Free => TURNS_AT_ONCE,
-            Stretch::Alone(turns) => turns,
+            Stretch::Paired(turns) | Stretch::Careful(turns) => turns,
         }
     }
 
@@ -91,7 +93,7 @@ impl Stretch {
     fn is_free(self) -> bool {
         match self {
             Stretch::Free => true,
-            Stretch::Alone(_) => false,
+            Stretch::Paired(_) | Stretch::Careful(_) => false,
         }
     }
 }
@@ -149,11 +151,11 @@ impl Pace {
             Stop::Over if self.next.is_free() => *self = Pace::new(),
             Stop::Over => *self = Pace::going_on(Stretch::Free, self.crowded),
             Stop::Rejected => {
-                *self = Pace::going_on(Stretch::Alone(CAREFUL_TURNS), self.crowded);
+                *self = Pace::going_on(Stretch::Careful(CAREFUL_TURNS), self.crowded);
             }
             Stop::Crowded => {
                 let more = self.crowded.saturating_mul(2).min(CROWDED_TURNS_MAX);
-                *self = Pace::going_on(Stretch::Alone(self.crowded), more);
+                *self = Pace::going_on(Stretch::Paired(self.crowded), more);
             }
             Stop::Idle { entries, at_once } => {
                 if !at_once {
@@ -370,7 +372,8 @@ fn schedule_by<J: Naming, R: Wait + Clock, G: Gate, S: StopSignal, T: Turns>(
         let stretch = pace.next;
         let place = match stretch {
             Stretch::Free => None,
-            Stretch::Alone(_) => Some(coordinator.alone(rt)),
+            Stretch::Paired(_) => Some(coordinator.beside_one(rt, worker.number)),
+            Stretch::Careful(_) => Some(coordinator.alone(rt)),
         };
         if place.is_some() && signal.is_raised(rt) {
             return;
