@@ -1,6 +1,8 @@
 -- What a call and a proposal come to, as events and receipts.
-use Rattle.cap_shared.proofs.Prelude.{◌≡◌, ℕ, [], ◌∷◌, ◌++◌, ◌-◌, List, Some, length, length-append, slice_get, arith, refl, ap, sym, ◌∙◌, subst, Me, resources, Flat, Reply, Step, Replies, Event, Request, Receipt, Mark, Moment, Sitting, View, Made, HasMore, receipt_for, receipts_in, IsBy, event_of_made, Pass, sitter, sitting, sitting_of}
+use Rattle.cap_shared.proofs.Prelude.{◌≡◌, ℕ, Bool, true, if◌then◌else◌, step_is_determined, [], ◌∷◌, ◌++◌, ◌-◌, List, Some, length, length-append, slice_get, arith, refl, ap, sym, ◌∙◌, subst, Me, resources, Flat, Reply, Step, Replies, Event, Request, Receipt, Mark, Moment, Sitting, View, Made, HasMore, receipt_for, receipts_in, IsBy, event_of_made, Pass, sitter, sitting, sitting_of}
 use Rattle.cap_model.specs.declared.event.Event.TheVariants as event
+use Rattle.cap_model.specs.Events.{is_no_memory}
+use Rattle.cap_model.specs.Replies.{after_request}
 use Rattle.cap_copy.proofs.Ranging.{last_at}
 use Rattle.cap_shared.specs.Calls.{CallsOk}
 use Rattle.cap_shared.specs.declared.entry.Receipt.TheVariants as receipt
@@ -9,6 +11,10 @@ use Rattle.cap_shared.proofs.Lists.{receipts_in-told}
 
 pub call_step : (old new : Flat resources) (by : ℕ) (request q : Request resources) (reply r : Reply resources) → Replies old request reply new → q ≡ request → r ≡ reply → Step old (event.Call by q r) new
 call_step old new by request q reply r is same_q same_r = subst (λ (x : Event resources). Step old x new) (sym (ap (λ (x : Request resources). event.Call by x r) same_q ∙ ap (λ (x : Reply resources). event.Call by request x) same_r)) is
+
+-- a call that no memory was found for leaves the cluster as it was
+pub unchanged : (old new : Flat resources) (request : Request resources) (reply : Reply resources) → Replies old request reply new → is_no_memory reply ≡ true → new ≡ old
+unchanged old new request reply is none = step_is_determined resources old new (event.Call 0 request reply) is ∙ ap (λ (b : Bool). if b then old else (after_request old request)) none
 
 made_by : (n : ℕ) (m : Made) → IsBy n (event_of_made m)
 made_by n (made.Grant c) = tt

@@ -14,6 +14,7 @@ mod marks;
 mod passes;
 mod seat;
 mod shared;
+mod shown;
 mod turnstile;
 mod word_rule;
 
@@ -25,3 +26,4 @@ pub use history::{Mark, Moment, NotedAnswer, Sitting, View};
 pub use laws::{journals_lead_to_states, journals_stay_bounded};
 pub use seat::{Naming, Seat};
 pub use shared::{Hold, Shared};
+pub use shown::Shown;

@@ -1,5 +1,6 @@
 //! The cluster that threads share, with its seats (`Shared`), and what one thread does under one lock (`Hold`).
-ghost use Rattle.std.specs.Prelude.{◌≡◌, ℕ, ◌<◌, ◌≤◌, [], length, map, vec_capacity, IfOk, OnOk, OnErr, MatchResult};
+ghost use Rattle.std.specs.Prelude.{◌≡◌, ℕ, ◌<◌, ◌≤◌, [], length, map, vec_capacity, IfOk, OnOk, OnErr, MatchOption, MatchResult};
+ghost use Rattle.std.specs.Arc.{arc_value};
 ghost use Rattle.cap_base.specs.Limits.{resources};
 ghost use Rattle.cap_copy.specs.Snapshot.{sight_in};
 ghost use Rattle.cap_copy.specs.Sources.{sight_of_copy};
@@ -16,7 +17,8 @@ use crate::faults::{CallFault, CommitFault, Fault};
 use crate::history::{Mark, View};
 use crate::passes::{Pass, Word};
 use crate::seat::{Naming, Seat};
-use crate::turnstile::{Standing, Turnstile};
+use crate::shown::Shown;
+use crate::turnstile::{Place, Turnstile};
 use crate::word_rule::{Compares, Handover, JournalRule};
 use atomic_table::Table;
 use bumpalo::Bump;
@@ -26,7 +28,7 @@ use cap_copy::{ClusterCopy, Snapshot};
 use cap_model::{NoMemory, OwnedReply, Proposal, Request, Verdict};
 use std::alloc::Global;
 use std::marker::PhantomData;
-use std::sync::{Mutex, MutexGuard, Wait};
+use std::sync::{Arc, Mutex, MutexGuard, Wait};
 
 /// A cluster under a lock, its journal, and the word that ties both to the seats. Threads share it by reference, each with a seat.
 pub struct Shared<J: Naming> {
@@ -58,7 +60,8 @@ pub struct Hold<'a, J: Naming> {
     alloc: Global,
     word: &'a Word,
     desk: MutexGuard<'a, Desk<J>>,
-    standing: Standing<'a>,
+    /// Of one that calls, its place before the lock.
+    place: Option<MutexGuard<'a, Place>>,
     ghost named: { word.now.table_id ≡ J.table },
     ghost some: { 0 < word.now.table_id.words },
 }
@@ -69,10 +72,10 @@ impl<'a, J: Naming> Drop for Hold<'a, J> {
             alloc: _,
             word: _,
             desk,
-            standing,
+            place,
         } = self;
         drop(desk);
-        drop(standing);
+        drop(place);
     }
 }
 
@@ -131,6 +134,24 @@ impl<'a, J: Naming> Hold<'a, J> {
         self.desk.copy(arena, self.word, seat)
     }
 
+    /// The last snapshot that was shown, where it shows the cluster as it is. Else there is none, and nothing changes.
+    pub fn shown(&mut self, seat: &mut Seat<J>) -> Option<Arc<Shown, Global>>
+        ensures { MatchOption result (seat.new ≡ seat.old) (λ shown.
+            CopyIs J.opening seat.old seat.new (sight_in resources (arc_value shown))) }
+    {
+        self.desk.shown(self.word, seat)
+    }
+
+    /// A snapshot of the cluster as it is: the last that was shown, or one that is made and arranged while the cluster is held, and that
+    /// `shown` gives until something is entered. If an allocation fails no seat is answered anything.
+    pub fn show(&mut self, seat: &mut Seat<J>) -> Result<Arc<Shown, Global>, NoMemory>
+        ensures { MatchResult result (λ shown.
+            CopyIs J.opening seat.old seat.new (sight_in resources (arc_value shown)))
+            (λ _. seat.new ≡ seat.old) }
+    {
+        self.desk.show(self.alloc, self.word, seat)
+    }
+
     /// Whether the journal is full.
     pub fn is_full(&self) -> bool {
         self.desk.is_full()
@@ -139,11 +160,6 @@ impl<'a, J: Naming> Hold<'a, J> {
     /// How many entries the journal has.
     pub fn entries(&self) -> usize {
         self.desk.entries()
-    }
-
-    /// Whether this is to schedule, and another thread that schedules waited for the cluster or held it when this one came.
-    pub fn is_crowded(&self) -> bool {
-        self.standing.is_crowded()
     }
 }
 
@@ -173,25 +189,28 @@ impl<J: Naming> Shared<J> {
         let place = self.turnstile.line_up(rt);
         let desk = self.desk.lock(rt);
         self.turnstile.has_entered();
-        self.held(desk, Standing::Caller(place))
+        self.held(desk, Some(place))
     }
 
     /// The same for a thread that schedules. It waits for a few calls of others at most, however many threads call.
     pub fn hold_to_schedule<R: Wait>(&self, rt: &R) -> Hold<'_, J> {
-        let scheduler = self.turnstile.scheduler();
         let place = self.turnstile.go_first(rt);
         let desk = self.turnstile.lock_to_schedule(rt, &self.desk);
         self.turnstile.has_gone(place);
-        self.held(desk, Standing::Scheduler(scheduler))
+        self.held(desk, None)
     }
 
     /// The cluster, held.
-    fn held<'a>(&'a self, desk: MutexGuard<'a, Desk<J>>, standing: Standing<'a>) -> Hold<'a, J> {
+    fn held<'a>(
+        &'a self,
+        desk: MutexGuard<'a, Desk<J>>,
+        place: Option<MutexGuard<'a, Place>>,
+    ) -> Hold<'a, J> {
         Hold {
             alloc: self.alloc,
             word: &self.table.shared,
             desk,
-            standing,
+            place,
         }
     }
 
@@ -271,6 +290,7 @@ impl<J: Naming> Shared<J> {
             journal,
             limit,
             pass,
+            shown: None,
             of: PhantomData,
         };
         Ok((
@@ -309,6 +329,7 @@ impl<J: Naming> Shared<J> {
             journal,
             limit: _,
             mut pass,
+            shown: _,
             of: _,
         } = desk.into_inner();
         for seat in seats {

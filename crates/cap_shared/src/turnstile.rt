@@ -16,42 +16,6 @@ const PASSED_MAX: u64 = 16;
 #[derive(Drop)]
 pub(crate) struct Place;
 
-/// What a thread has beside the lock, until it has given that back.
-#[derive(Drop)]
-pub(crate) enum Standing<'a> {
-    /// One that calls: its place.
-    Caller(MutexGuard<'a, Place>),
-    /// One that schedules.
-    Scheduler(Scheduler<'a>),
-}
-
-impl Standing<'_> {
-    /// Whether it schedules, and another was waiting for the lock or had it when it came.
-    pub(crate) fn is_crowded(&self) -> bool {
-        match self {
-            Standing::Caller(_) => false,
-            Standing::Scheduler(scheduler) => scheduler.is_crowded,
-        }
-    }
-}
-
-/// A thread that schedules, from when it begins to wait for the lock until it has given that back.
-pub(crate) struct Scheduler<'a> {
-    /// How many there are.
-    count: &'a AtomicU64,
-    is_crowded: bool,
-}
-
-impl Drop for Scheduler<'_> {
-    fn drop(self) {
-        let Scheduler {
-            count,
-            is_crowded: _,
-        } = self;
-        count.fetch_sub(1, Ordering::SeqCst);
-    }
-}
-
 /// Of the threads that call, one at a time waits for the lock, and it lets those that schedule go first once some calls have passed them.
 /// So a thread that schedules waits for a few calls at most, and for the others that schedule, however many threads call.
 #[derive(Drop)]
@@ -64,8 +28,6 @@ pub(crate) struct Turnstile {
     waiting: AtomicU64,
     /// How many calls have passed them.
     passed: AtomicU64,
-    /// How many threads that schedule wait or have the lock.
-    scheduling: AtomicU64,
 }
 
 impl Turnstile {
@@ -77,7 +39,6 @@ impl Turnstile {
             calls: AtomicU64::new(0),
             waiting: AtomicU64::new(0),
             passed: AtomicU64::new(0),
-            scheduling: AtomicU64::new(0),
         }
     }
 
@@ -108,14 +69,6 @@ impl Turnstile {
             yield_now();
         }
         self.callers.lock(rt)
-    }
-
-    /// A thread that schedules comes.
-    pub(crate) fn scheduler(&self) -> Scheduler<'_> {
-        Scheduler {
-            is_crowded: self.scheduling.fetch_add(1, Ordering::SeqCst) > 0,
-            count: &self.scheduling,
-        }
     }
 
     /// The place of a thread that schedules, which takes the lock next.

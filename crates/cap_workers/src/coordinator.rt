@@ -1,6 +1,7 @@
 //! What the workers and the committer of an epoch share beside the cluster (`Coordinator`).
 use crate::gate::{CommitOutcome, Gate, Point};
 use cap_lanes::Committer;
+use std::sync::atomic::{AtomicU64, Ordering};
 use std::sync::{Mutex, MutexGuard, Wait};
 use std::thread::Parker;
 
@@ -8,9 +9,28 @@ use std::thread::Parker;
 #[derive(Drop)]
 pub(crate) struct Watch;
 
-/// What the worker has that takes turns alone, or beside one other.
+/// What the worker has that takes turns alone.
 #[derive(Drop)]
 pub(crate) struct Alone;
+
+/// A worker, as long as it is counted among those that do the same.
+pub(crate) struct OneMore<'a> {
+    count: &'a AtomicU64,
+}
+
+impl OneMore<'_> {
+    fn of(count: &AtomicU64) -> OneMore<'_> {
+        count.fetch_add(1, Ordering::SeqCst);
+        OneMore { count }
+    }
+}
+
+impl Drop for OneMore<'_> {
+    fn drop(self) {
+        let OneMore { count } = self;
+        count.fetch_sub(1, Ordering::SeqCst);
+    }
+}
 
 /// How many proposals are committed at most while the cluster is held once.
 pub(crate) const BATCH: usize = 8;
@@ -43,8 +63,10 @@ pub struct Coordinator {
     watch: Mutex<Watch>,
     /// Workers whose proposals were rejected take turns one at a time.
     alone: Mutex<Alone>,
-    /// Workers that have found others at the cluster all the time take turns two at a time: each while it has one of these.
-    beside: [Mutex<Alone>; 2],
+    /// How many workers take turns.
+    busy: AtomicU64,
+    /// How many of them propose on a snapshot that is shown to others, or have not committed yet what they proposed on one.
+    proposing: AtomicU64,
     /// The committer's end of the lanes, while its thread runs. Who holds the cluster takes it for a while, and commits what it takes out of them.
     lanes: Mutex<Option<Committer>>,
     /// Where the committer's thread waits.
@@ -59,7 +81,8 @@ impl Coordinator {
         Coordinator {
             watch: Mutex::new(Watch),
             alone: Mutex::new(Alone),
-            beside: [Mutex::new(Alone), Mutex::new(Alone)],
+            busy: AtomicU64::new(0),
+            proposing: AtomicU64::new(0),
             lanes: Mutex::new(None),
             committer: Parker::new(),
             answers: [
@@ -85,22 +108,24 @@ impl Coordinator {
         self.alone.lock(rt)
     }
 
-    /// Waits until at most one other worker takes turns beside this one, of those that do so two at a time. Where two do, those of even numbers
-    /// wait for one of them, and those of odd numbers for the other.
-    pub(crate) fn beside_one<R: Wait>(&self, rt: &R, worker: u32) -> MutexGuard<'_, Alone> {
-        let [even, odd] = &self.beside;
-        let (own, other) = if worker % 2 == 0 {
-            (even, odd)
-        } else {
-            (odd, even)
-        };
-        if let Some(place) = own.try_lock() {
-            return place;
-        }
-        match other.try_lock() {
-            Some(place) => place,
-            None => own.lock(rt),
-        }
+    /// A worker takes turns from now on.
+    pub(crate) fn takes_turns(&self) -> OneMore<'_> {
+        OneMore::of(&self.busy)
+    }
+
+    /// Whether at most one worker takes turns.
+    pub(crate) fn is_lonely(&self) -> bool {
+        self.busy.load(Ordering::SeqCst) < 2
+    }
+
+    /// A worker proposes on a snapshot that is shown to others, from now on until what it proposes is committed.
+    pub(crate) fn proposes(&self) -> OneMore<'_> {
+        OneMore::of(&self.proposing)
+    }
+
+    /// Whether a worker does so.
+    pub(crate) fn is_any_proposing(&self) -> bool {
+        self.proposing.load(Ordering::SeqCst) > 0
     }
 
     /// The committer's thread begins.

@@ -1,5 +1,5 @@
 //! What a worker and the committer do in an epoch (`schedule`, `schedule_by_lane`, `commit_all`).
-use crate::coordinator::{BATCH, Coordinator, LaneSide, Outcomes};
+use crate::coordinator::{BATCH, Coordinator, LaneSide, OneMore, Outcomes};
 use crate::gate::{CommitOutcome, Gate};
 use crate::worker::{Begun, Next, Notices, OfferEnd, TurnEnd, Worker, put};
 use bumpalo::Bump;
@@ -20,17 +20,6 @@ const CAREFUL_TURNS: u32 = 16;
 /// How many turns a worker takes before it looks again whether others wait.
 const TURNS_AT_ONCE: u32 = 1024;
 
-/// A worker looks at so many of its turns together, whether others that schedule were at the cluster when it came.
-const CROWD_LOOKS: u32 = 32;
-
-/// Where they were at so many of these, the cluster is held all the time, and a third worker at it makes no more grants.
-const CROWD: u32 = 28;
-
-/// How many turns a worker takes then two at a time with others: so many the first time, and twice as many each time after.
-const CROWDED_TURNS: u32 = 1024;
-
-const CROWDED_TURNS_MAX: u32 = 4096;
-
 /// Ends an epoch, and keeps those that have nothing to do until then.
 pub trait StopSignal {
     /// Whether those that schedule are to leave the epoch. Once it is raised it stays so until the epoch has ended.
@@ -49,8 +38,6 @@ enum Stop {
     Idle { entries: usize, at_once: bool },
     /// A proposal was rejected.
     Rejected,
-    /// Others are at the cluster all the time.
-    Crowded,
     /// The journal is full.
     Sealed,
     /// An allocation failed.
@@ -65,8 +52,6 @@ struct Pace {
     idle_at: Option<usize>,
     /// The turns that the worker takes next.
     next: Stretch,
-    /// How many it will take two at a time with others once these are at the cluster all the time.
-    crowded: u32,
 }
 
 /// How many turns a worker takes next, and how many workers take theirs with it.
@@ -74,8 +59,6 @@ struct Pace {
 enum Stretch {
     /// All that do so too, at once.
     Free,
-    /// Those that take so many two at a time.
-    Paired(u32),
     /// Those that take so many one at a time.
     Careful(u32),
 }
@@ -85,56 +68,23 @@ impl Stretch {
     fn turns(self) -> u32 {
         match self {
             Stretch::Free => TURNS_AT_ONCE,
-            Stretch::Paired(turns) | Stretch::Careful(turns) => turns,
+            Stretch::Careful(turns) => turns,
         }
-    }
-
-    /// Whether the worker leaves it where others are at the cluster all the time.
-    fn is_free(self) -> bool {
-        match self {
-            Stretch::Free => true,
-            Stretch::Paired(_) | Stretch::Careful(_) => false,
-        }
-    }
-}
-
-/// At how many of its last turns a worker has found others at the cluster.
-#[derive(Clone, Copy)]
-struct Crowd {
-    looks: u32,
-    seen: u32,
-}
-
-impl Crowd {
-    fn new() -> Crowd {
-        Crowd { looks: 0, seen: 0 }
-    }
-
-    /// After one more turn, whether others are there all the time.
-    fn is_full_after(&mut self, is_crowded: bool) -> bool {
-        self.looks = self.looks.saturating_add(1);
-        self.seen = self.seen.saturating_add(is_crowded as u32);
-        let is_full = self.seen >= CROWD;
-        if is_full || self.looks >= CROWD_LOOKS {
-            *self = Crowd::new();
-        }
-        is_full
     }
 }
 
 impl Pace {
     /// Of a worker that begins.
     fn new() -> Pace {
-        Pace::going_on(Stretch::Free, CROWDED_TURNS)
+        Pace::going_on(Stretch::Free)
     }
 
     /// Of a worker that has found something to do.
-    fn going_on(next: Stretch, crowded: u32) -> Pace {
+    fn going_on(next: Stretch) -> Pace {
         Pace {
             pause: 1,
             idle_at: None,
             next,
-            crowded,
         }
     }
 
@@ -148,15 +98,8 @@ impl Pace {
     fn after<R: Wait + Clock, S: StopSignal>(&mut self, rt: &R, signal: &S, stop: Stop) -> bool {
         match stop {
             Stop::Sealed => return false,
-            Stop::Over if self.next.is_free() => *self = Pace::new(),
-            Stop::Over => *self = Pace::going_on(Stretch::Free, self.crowded),
-            Stop::Rejected => {
-                *self = Pace::going_on(Stretch::Careful(CAREFUL_TURNS), self.crowded);
-            }
-            Stop::Crowded => {
-                let more = self.crowded.saturating_mul(2).min(CROWDED_TURNS_MAX);
-                *self = Pace::going_on(Stretch::Paired(self.crowded), more);
-            }
+            Stop::Over => *self = Pace::new(),
+            Stop::Rejected => *self = Pace::going_on(Stretch::Careful(CAREFUL_TURNS)),
             Stop::Idle { entries, at_once } => {
                 if !at_once {
                     self.pause = 1;
@@ -188,28 +131,49 @@ trait Turns {
     ) -> Stop;
 }
 
-/// Where a worker's snapshots lie.
+/// Where the snapshots of a worker lie that takes turns alone, and whether it does so.
 #[derive(Drop)]
-struct Room {
+struct Room<'a> {
     alloc: Global,
     arena: Bump,
+    coordinator: &'a Coordinator,
 }
 
-impl Room {
-    fn new(alloc: Global) -> Room {
+impl<'a> Room<'a> {
+    fn new(alloc: Global, coordinator: &'a Coordinator) -> Room<'a> {
         Room {
             alloc,
             arena: Bump::new(alloc),
+            coordinator,
         }
     }
 
-    /// The proposal of a turn that has begun, the first or a later one. Where the arena was not reset, there is another for the next turn.
-    fn proposal(&mut self, begun: Begun, at_once: bool) -> Result<Proposal<RESOURCES>, Stop> {
+    /// The worker begins a turn: on a copy of its own where no other takes turns, and else on a snapshot that is shown to all of them.
+    fn begin<J: Naming, R: Wait, G: Gate>(
+        &mut self,
+        rt: &R,
+        shared: &Shared<J>,
+        seat: &mut Seat<J>,
+        gate: &G,
+        worker: &mut Worker,
+    ) -> Begun<'a> {
+        if self.coordinator.is_lonely() {
+            return worker.begin(rt, shared, seat, &mut self.arena, gate);
+        }
+        worker.begin_beside(rt, shared, seat, gate, self.coordinator)
+    }
+
+    /// The proposal of a turn that has begun, the first or a later one, and the worker among those to which snapshots are shown. Where the arena
+    /// was not reset, there is another for the next turn.
+    fn proposal(&mut self, begun: Begun<'a>, at_once: bool) -> Result<Proposed<'a>, Stop> {
         if !begun.reset {
             self.arena = Bump::new(self.alloc);
         }
         match begun.choice {
-            Ok(Some(proposal)) => Ok(proposal),
+            Ok(Some(proposal)) => Ok(Proposed {
+                proposal,
+                beside: begun.seen.beside,
+            }),
             Ok(None) => Err(Stop::Idle {
                 entries: begun.seen.entries,
                 at_once,
@@ -219,10 +183,17 @@ impl Room {
     }
 }
 
+/// What a turn proposes, and the worker among those to which snapshots are shown, until that is committed.
+#[derive(Drop)]
+struct Proposed<'a> {
+    proposal: Proposal<RESOURCES>,
+    beside: Option<OneMore<'a>>,
+}
+
 /// The worker commits what it proposes.
 #[derive(Drop)]
-struct Direct {
-    room: Room,
+struct Direct<'a> {
+    room: Room<'a>,
 }
 
 /// Whether a turn that has ended so stops the worker.
@@ -235,7 +206,28 @@ fn stop_of(end: &TurnEnd) -> Option<Stop> {
     }
 }
 
-impl Turns for Direct {
+impl<'a> Direct<'a> {
+    /// Commits what a turn proposes: how the turn ends, and the next where it has begun in the same hold of the cluster, as it does where no
+    /// other worker takes turns.
+    fn commit<J: Naming, R: Wait, G: Gate>(
+        &mut self,
+        rt: &R,
+        shared: &Shared<J>,
+        seat: &mut Seat<J>,
+        gate: &G,
+        worker: &mut Worker,
+        proposal: Proposal<RESOURCES>,
+    ) -> (TurnEnd, Option<Begun<'a>>) {
+        if !self.room.coordinator.is_lonely() {
+            return (worker.commit(rt, shared, seat, gate, proposal), None);
+        }
+        let arena = &mut self.room.arena;
+        let Next { end, begun } = worker.go_on(rt, shared, seat, arena, gate, proposal);
+        (end, Some(begun))
+    }
+}
+
+impl Turns for Direct<'_> {
     fn take<J: Naming, R: Wait, G: Gate, S: StopSignal>(
         &mut self,
         rt: &R,
@@ -246,42 +238,42 @@ impl Turns for Direct {
         worker: &mut Worker,
         stretch: Stretch,
     ) -> Stop {
-        let mut begun = worker.begin(rt, shared, seat, &mut self.room.arena, gate);
-        let mut crowd = Crowd::new();
+        let mut begun = self.room.begin(rt, shared, seat, gate, worker);
         for turn in 1..stretch.turns() {
-            let leaves = crowd.is_full_after(begun.seen.is_crowded) && stretch.is_free();
-            let proposal = match self.room.proposal(begun, turn == 1) {
-                Ok(proposal) => proposal,
+            let Proposed { proposal, beside } = match self.room.proposal(begun, turn == 1) {
+                Ok(proposed) => proposed,
                 Err(stop) => return stop,
             };
-            if leaves || signal.is_raised(rt) {
+            if signal.is_raised(rt) {
                 let _end = worker.commit(rt, shared, seat, gate, proposal);
-                return if leaves { Stop::Crowded } else { Stop::Over };
+                return Stop::Over;
             }
-            let next = worker.go_on(rt, shared, seat, &mut self.room.arena, gate, proposal);
-            let Next { end, begun: more } = next;
+            let (end, next) = self.commit(rt, shared, seat, gate, worker, proposal);
+            drop(beside);
             if let Some(stop) = stop_of(&end) {
                 return stop;
             }
-            begun = more;
+            begun = match next {
+                Some(begun) => begun,
+                None => self.room.begin(rt, shared, seat, gate, worker),
+            };
         }
         Stop::Over
     }
 }
 
-/// The worker puts what it proposes into its lane, for the committer, and waits for the answer. Where nobody is at the lanes meanwhile, it takes
-/// and commits what waits there itself.
+/// The worker puts what it proposes into its lane, for the committer, and waits for the answer. Once it holds the cluster, it takes and commits what
+/// waits in the lanes itself.
 #[derive(Drop)]
 struct ByLane<'a> {
-    room: Room,
+    room: Room<'a>,
     putter: Putter,
     side: LaneSide<'a>,
-    coordinator: &'a Coordinator,
 }
 
-impl ByLane<'_> {
-    /// The answer to what the worker has put, and its next turn, if that has begun in the same hold of the cluster. Who holds the cluster commits all
-    /// that waits, so this waits at most until another that did so tells of it, or until the committer begins.
+impl<'a> ByLane<'a> {
+    /// The answer to what the worker has put, and its next turn, if that has begun in the same hold of the cluster, as it does where no other takes
+    /// turns. Who holds the cluster commits all that waits, so this waits at most until another that did so tells of it, or until the committer begins.
     fn settle<J: Naming, R: Wait, G: Gate>(
         &mut self,
         rt: &R,
@@ -289,17 +281,23 @@ impl ByLane<'_> {
         seat: &mut Seat<J>,
         gate: &G,
         worker: &mut Worker,
-    ) -> (CommitOutcome, Option<Begun>) {
+    ) -> (CommitOutcome, Option<Begun<'a>>) {
+        let coordinator = self.room.coordinator;
         let mut held = shared.hold_to_schedule(rt);
-        let committed = commit_lanes(rt, &mut held, seat, self.coordinator);
+        let committed = commit_lanes(rt, &mut held, seat, coordinator);
         let Some(committed) = committed else {
             drop(held);
             return (self.side.await_answer(rt), None);
         };
         let outcomes = committed.outcomes;
+        if !coordinator.is_lonely() {
+            drop(held);
+            coordinator.notify(rt, gate, &outcomes);
+            return (self.side.await_answer(rt), None);
+        }
         let notices = Notices {
             outcomes,
-            coordinator: Some(self.coordinator),
+            coordinator: Some(coordinator),
         };
         let begun = worker.begin_held(rt, held, seat, &mut self.room.arena, gate, &notices);
         (self.side.await_answer(rt), Some(begun))
@@ -317,29 +315,28 @@ impl Turns for ByLane<'_> {
         worker: &mut Worker,
         stretch: Stretch,
     ) -> Stop {
-        let mut begun = worker.begin(rt, shared, seat, &mut self.room.arena, gate);
-        let mut crowd = Crowd::new();
+        let mut begun = self.room.begin(rt, shared, seat, gate, worker);
         for turn in 1..stretch.turns() {
-            let leaves = crowd.is_full_after(begun.seen.is_crowded) && stretch.is_free();
-            let proposal = match self.room.proposal(begun, turn == 1) {
-                Ok(proposal) => proposal,
+            let Proposed { proposal, beside } = match self.room.proposal(begun, turn == 1) {
+                Ok(proposed) => proposed,
                 Err(stop) => return stop,
             };
             let OfferEnd::Put = put(rt, &mut self.putter, proposal) else {
                 return Stop::NoMemory;
             };
             let (outcome, next) = self.settle(rt, shared, seat, gate, worker);
+            drop(beside);
             match outcome {
                 CommitOutcome::Made => {}
                 CommitOutcome::Rejected => return Stop::Rejected,
                 CommitOutcome::Unmade => return Stop::NoMemory,
             }
-            if leaves || signal.is_raised(rt) {
-                return if leaves { Stop::Crowded } else { Stop::Over };
+            if signal.is_raised(rt) {
+                return Stop::Over;
             }
             begun = match next {
                 Some(begun) => begun,
-                None => worker.begin(rt, shared, seat, &mut self.room.arena, gate),
+                None => self.room.begin(rt, shared, seat, gate, worker),
             };
         }
         Stop::Over
@@ -372,13 +369,14 @@ fn schedule_by<J: Naming, R: Wait + Clock, G: Gate, S: StopSignal, T: Turns>(
         let stretch = pace.next;
         let place = match stretch {
             Stretch::Free => None,
-            Stretch::Paired(_) => Some(coordinator.beside_one(rt, worker.number)),
             Stretch::Careful(_) => Some(coordinator.alone(rt)),
         };
         if place.is_some() && signal.is_raised(rt) {
             return;
         }
+        let busy = coordinator.takes_turns();
         let stop = turns.take(rt, shared, seat, signal, gate, worker, stretch);
+        drop(busy);
         drop(place);
         if !pace.after(rt, signal, stop) {
             return;
@@ -386,8 +384,8 @@ fn schedule_by<J: Naming, R: Wait + Clock, G: Gate, S: StopSignal, T: Turns>(
     }
 }
 
-/// A worker schedules, and commits what it proposes, until the journal is full, or until the signal is raised. A commit and the next copy
-/// are made while the cluster is held once.
+/// A worker schedules, and commits what it proposes, until the journal is full, or until the signal is raised. Where no other takes turns, a
+/// commit and the next copy are made while the cluster is held once.
 pub fn schedule<J: Naming, R: Wait + Clock, G: Gate, S: StopSignal>(
     rt: &R,
     alloc: Global,
@@ -399,7 +397,7 @@ pub fn schedule<J: Naming, R: Wait + Clock, G: Gate, S: StopSignal>(
     worker: &mut Worker,
 ) {
     let mut turns = Direct {
-        room: Room::new(alloc),
+        room: Room::new(alloc, coordinator),
     };
     schedule_by(
         rt,
@@ -427,10 +425,9 @@ pub fn schedule_by_lane<J: Naming, R: Wait + Clock, G: Gate, S: StopSignal>(
     putter: Putter,
 ) {
     let mut turns = ByLane {
-        room: Room::new(alloc),
+        room: Room::new(alloc, coordinator),
         side: coordinator.lane(putter.worker()),
         putter,
-        coordinator,
     };
     schedule_by(
         rt,

@@ -1,13 +1,15 @@
 //! A worker (`Worker`), and what it does in a turn: it copies, proposes, and commits or offers.
+ghost use Rattle.std.specs.Arc.{arc_value};
 ghost use Rattle.std.specs.Prelude.{◌≡◌, ◌+◌, ◌%◌, ◌^◌, MatchResult};
 ghost use Rattle.cap_base.specs.Limits.{resources};
 ghost use Rattle.cap_model.specs.Candidates.{choice_from};
 ghost use Rattle.cap_copy.specs.Snapshot.{sight_in};
 ghost use Rattle.cap_copy.specs.Sources.{sight_of_copy};
+ghost use Rattle.cap_propose.specs.Sizes.{SnapshotFitsInMemory};
 ghost use Rattle.cap_shared.specs.Calls.{CopyIs};
 ghost use Rattle.cap_workers.specs.Worker.{Chooses, GoesOn, IsCommitted, IsOffer, IsPut, IsTurn, end_by, end_by_fault};
 
-use crate::coordinator::{BATCH, Coordinator, Outcomes};
+use crate::coordinator::{BATCH, Coordinator, OneMore, Outcomes};
 use crate::gate::{CommitOutcome, Gate, Point};
 use bumpalo::Bump;
 use cap_base::RESOURCES;
@@ -15,8 +17,13 @@ use cap_copy::{ClusterCopy, Snapshot};
 use cap_lanes::Putter;
 use cap_model::{Event, NoMemory, Proposal, Reason, Verdict};
 use cap_propose::propose;
-use cap_shared::{CommitFault, Hold, Naming, Seat, Shared};
-use std::sync::Wait;
+use cap_shared::{CommitFault, Hold, Naming, Seat, Shared, Shown};
+use std::alloc::{Allocator, Global};
+use std::sync::{Arc, Wait};
+use std::thread::yield_now;
+
+/// How often a worker that wants a snapshot looks whether one is shown, while others are to commit what they proposed.
+const LOOKS: u32 = 50;
 
 /// A worker. Contracts see its number, and the node at which its next turn starts.
 #[derive(Clone, Copy, Debug, PartialEq, Eq)]
@@ -71,28 +78,28 @@ pub struct Offer {
 
 /// A turn that has begun: it is still to be committed.
 #[derive(Drop)]
-pub(crate) struct Begun {
+pub(crate) struct Begun<'a> {
     /// What is proposed, if anything. An error means that an allocation failed.
     pub choice: Result<Option<Proposal<RESOURCES>>, NoMemory>,
-    pub seen: Seen,
+    pub seen: Seen<'a>,
     /// Whether the arena was reset.
     pub reset: bool,
 }
 
-/// What a worker sees of the cluster while it copies it.
-#[derive(Clone, Copy)]
-pub(crate) struct Seen {
+/// What a worker sees of the cluster when it copies it, or when a snapshot is shown to it.
+#[derive(Drop)]
+pub(crate) struct Seen<'a> {
     /// How many entries the journal has.
     pub entries: usize,
-    /// Whether another that schedules was at the cluster when this worker came.
-    pub is_crowded: bool,
+    /// The worker, among those to which snapshots are shown.
+    pub beside: Option<OneMore<'a>>,
 }
 
 /// A turn that has ended, and the next, which has begun.
 #[derive(Drop)]
-pub(crate) struct Next {
+pub(crate) struct Next<'a> {
     pub end: TurnEnd,
-    pub begun: Begun,
+    pub begun: Begun<'a>,
 }
 
 /// What came of earlier turns, which is told once the cluster is not held any more: to the gate, and through the coordinator to the workers
@@ -202,7 +209,7 @@ impl Worker {
         seat: &mut Seat<J>,
         arena: &mut Bump,
         gate: &G,
-    ) -> Begun
+    ) -> Begun<'static>
         ensures start { self.new ≡ record {
           number = self.old.number;
           start = (self.old.start + 1) % 2 ^ 32;
@@ -220,6 +227,32 @@ impl Worker {
         )
     }
 
+    /// Begins a turn on a snapshot that is shown to the workers that take turns at the same time.
+    pub(crate) fn begin_beside<'a, J: Naming, R: Wait, G: Gate>(
+        &mut self,
+        rt: &R,
+        shared: &Shared<J>,
+        seat: &mut Seat<J>,
+        gate: &G,
+        coordinator: &'a Coordinator,
+    ) -> Begun<'a>
+        ensures start { self.new ≡ record {
+          number = self.old.number;
+          start = (self.old.start + 1) % 2 ^ 32;
+        } }
+        ensures choice { MatchResult result.choice
+            (Chooses J.opening self.old.start seat.old seat.new) (λ _. seat.new ≡ seat.old) }
+    {
+        let start = self.start;
+        self.start = start.wrapping_add(1);
+        let (choice, seen) = choose_beside(rt, shared, seat, gate, coordinator, self.number, start);
+        Begun {
+            choice,
+            seen,
+            reset: true,
+        }
+    }
+
     /// Commits the proposal of a turn that has begun, and begins the next, while the cluster is held once.
     pub(crate) fn go_on<J: Naming, R: Wait, G: Gate>(
         &mut self,
@@ -229,7 +262,7 @@ impl Worker {
         arena: &mut Bump,
         gate: &G,
         proposal: Proposal<RESOURCES>,
-    ) -> Next
+    ) -> Next<'static>
         ensures start { self.new ≡ record {
           number = self.old.number;
           start = (self.old.start + 1) % 2 ^ 32;
@@ -257,7 +290,7 @@ impl Worker {
         arena: &mut Bump,
         gate: &G,
         notices: &Notices<'_>,
-    ) -> Begun
+    ) -> Begun<'static>
         ensures start { self.new ≡ record {
           number = self.old.number;
           start = (self.old.start + 1) % 2 ^ 32;
@@ -303,7 +336,7 @@ fn choose<J: Naming, R: Wait, G: Gate>(
     notices: &Notices<'_>,
     worker: u32,
     start: u32,
-) -> (Result<Option<Proposal<RESOURCES>>, NoMemory>, Seen)
+) -> (Result<Option<Proposal<RESOURCES>>, NoMemory>, Seen<'static>)
     ensures { MatchResult result.0 (Chooses J.opening start seat.old seat.new)
         (λ _. seat.new ≡ seat.old) }
 {
@@ -321,7 +354,10 @@ fn copy<'a, J: Naming>(
     held: Hold<'_, J>,
     seat: &mut Seat<J>,
     arena: &'a Bump,
-) -> (Result<ClusterCopy<RESOURCES, &'a Bump>, NoMemory>, Seen)
+) -> (
+    Result<ClusterCopy<RESOURCES, &'a Bump>, NoMemory>,
+    Seen<'static>,
+)
     ensures { MatchResult result.0
         (λ copied. CopyIs J.opening seat.old seat.new (sight_of_copy resources copied))
         (λ _. seat.new ≡ seat.old) }
@@ -330,19 +366,90 @@ fn copy<'a, J: Naming>(
     let copied = held.copy(arena, seat);
     let seen = Seen {
         entries: held.entries(),
-        is_crowded: held.is_crowded(),
+        beside: None,
     };
     (copied, seen)
 }
 
+/// What a worker proposes on a snapshot that is shown to several, and what it sees then. If an allocation fails there is no proposal.
+fn choose_beside<'a, J: Naming, R: Wait, G: Gate>(
+    rt: &R,
+    shared: &Shared<J>,
+    seat: &mut Seat<J>,
+    gate: &G,
+    coordinator: &'a Coordinator,
+    worker: u32,
+    start: u32,
+) -> (Result<Option<Proposal<RESOURCES>>, NoMemory>, Seen<'a>)
+    ensures { MatchResult result.0 (Chooses J.opening start seat.old seat.new)
+        (λ _. seat.new ≡ seat.old) }
+{
+    let (shown, seen) = await_shown(rt, shared, seat, coordinator);
+    let Ok(shown) = shown else {
+        return (Err(NoMemory), seen);
+    };
+    let choice = propose_on(shown.snapshot(), gate, worker, start);
+    (Ok(choice), seen)
+}
+
+/// The snapshot that is shown, or a new one once no worker is to commit what it proposed on the last, or after so many looks: so workers that
+/// take turns at the same time copy the cluster once for all of them.
+fn await_shown<'a, J: Naming, R: Wait>(
+    rt: &R,
+    shared: &Shared<J>,
+    seat: &mut Seat<J>,
+    coordinator: &'a Coordinator,
+) -> (Result<Arc<Shown, Global>, NoMemory>, Seen<'a>)
+    ensures { MatchResult result.0
+        (λ shown. CopyIs J.opening seat.old seat.new (sight_in resources (arc_value shown)))
+        (λ _. seat.new ≡ seat.old) }
+{
+    for _ in 0..LOOKS {
+        let mut held = shared.hold_to_schedule(rt);
+        if let Some(shown) = held.shown(seat) {
+            return (Ok(shown), seen_beside(&held, coordinator));
+        }
+        if !coordinator.is_any_proposing() {
+            return show(held, seat, coordinator);
+        }
+        drop(held);
+        yield_now();
+    }
+    show(shared.hold_to_schedule(rt), seat, coordinator)
+}
+
+/// Shows a snapshot of the cluster, which is held, and gives the cluster back.
+fn show<'a, J: Naming>(
+    held: Hold<'_, J>,
+    seat: &mut Seat<J>,
+    coordinator: &'a Coordinator,
+) -> (Result<Arc<Shown, Global>, NoMemory>, Seen<'a>)
+    ensures { MatchResult result.0
+        (λ shown. CopyIs J.opening seat.old seat.new (sight_in resources (arc_value shown)))
+        (λ _. seat.new ≡ seat.old) }
+{
+    let mut held = held;
+    let shown = held.show(seat);
+    (shown, seen_beside(&held, coordinator))
+}
+
+/// What a worker sees to which a snapshot is shown while it holds the cluster.
+fn seen_beside<'a, J: Naming>(held: &Hold<'_, J>, coordinator: &'a Coordinator) -> Seen<'a> {
+    Seen {
+        entries: held.entries(),
+        beside: Some(coordinator.proposes()),
+    }
+}
+
 /// What a worker proposes on a snapshot. It has no shared cluster here, so that it can hold none.
-fn propose_on<G: Gate>(
-    snapshot: &Snapshot<RESOURCES, &Bump>,
+fn propose_on<const K: usize, B: Allocator + Copy, G: Gate>(
+    snapshot: &Snapshot<K, B>,
     gate: &G,
     worker: u32,
     start: u32,
-) -> Option<Proposal<RESOURCES>>
-    ensures { result ≡ choice_from (sight_in resources snapshot.now) start }
+) -> Option<Proposal<K>>
+    requires { SnapshotFitsInMemory K.row B.row B.Allocator }
+    ensures { result ≡ choice_from (sight_in K snapshot.now) start }
 {
     gate.at(worker, Point::Copied);
     let choice = propose(snapshot, start);

@@ -4,6 +4,7 @@ use crate::refusals::shortage::Shortage;
 use bumpalo::Bump;
 use cap_base::RESOURCES;
 use cap_model::{Event, OwnedReply, Proposal, ProposalKind, ReplyWith, Request, Verdict};
+use cap_propose::propose;
 use cap_shared::{CallFault, CommitFault, Naming, Receipt, Seat, Shared};
 use cap_testing::Call;
 use cap_workers::{Committer, OfferEnd, OpenGate, Putter, TurnEnd, Worker, lanes};
@@ -18,6 +19,8 @@ pub enum Act {
     Commit,
     Turn,
     Offer,
+    /// A snapshot is shown, on which the grant is proposed.
+    Show,
 }
 
 /// What came of an act.
@@ -186,6 +189,17 @@ fn offer<J: Naming, H: Wait>(
     }
 }
 
+fn show<J: Naming, H: Wait>(rt: &H, shared: &Shared<J>, seat: &mut Seat<J>) -> ActEnd {
+    let shown = shared.hold_to_schedule(rt).show(seat);
+    let Ok(shown) = shown else {
+        return ActEnd::Refused;
+    };
+    match propose(shown.snapshot(), 0) {
+        Some(proposal) if is_grant(&proposal) => ActEnd::Made,
+        _ => ActEnd::Other,
+    }
+}
+
 /// Makes an act. An offer is put by the first of the putters.
 fn make<J: Naming, H: Wait>(
     rt: &H,
@@ -201,10 +215,12 @@ fn make<J: Naming, H: Wait>(
         (Act::Turn, _) => turn(rt, shared, seat, tools),
         (Act::Offer, Some(putter)) => offer(rt, shared, seat, tools, putter),
         (Act::Offer, None) => ActEnd::Other,
+        (Act::Show, _) => show(rt, shared, seat),
     }
 }
 
-/// What comes of an act where memory is short: a refusal enters nothing, and the act is made once memory is there. An offer enters nothing.
+/// What comes of an act where memory is short: a refusal enters nothing, and the act is made once memory is there. An offer and a snapshot enter
+/// nothing.
 fn judged<J: Naming, H: Wait>(
     rt: &H,
     shortage: &mut Shortage<'_>,
@@ -226,7 +242,10 @@ fn judged<J: Naming, H: Wait>(
     } else {
         first
     };
-    let wanted = if let Act::Offer = act { 0 } else { 1 };
+    let wanted = match act {
+        Act::Offer | Act::Show => 0,
+        Act::Call(_) | Act::Commit | Act::Turn => 1,
+    };
     let is_so = last == ActEnd::Made && entered(rt, shared, seat) == Some(wanted);
     came_of(was_refused, is_so)
 }

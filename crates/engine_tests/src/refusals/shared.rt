@@ -68,8 +68,8 @@ fn unlike<H: Wait>(rt: &H, alloc: Global, tasks: &[(Before, Task)]) -> Option<(u
     None
 }
 
-/// A Submit, a second Allocate under another key, a grant, a turn, an offer, and the opening of an epoch.
-static TASKS: [(Before, Task); 6] = [
+/// A Submit, a second Allocate under another key, a grant, a turn, an offer, a snapshot that is shown, and the opening of an epoch.
+static TASKS: [(Before, Task); 7] = [
     (
         Before::Nothing,
         Task::Act(Act::Call(Call::Submit(b"root.a", b"u1"))),
@@ -81,6 +81,7 @@ static TASKS: [(Before, Task); 6] = [
     (Before::Asking, Task::Act(Act::Commit)),
     (Before::Asking, Task::Act(Act::Turn)),
     (Before::Asking, Task::Act(Act::Offer)),
+    (Before::Asking, Task::Act(Act::Show)),
     (Before::Nothing, Task::Open),
 ];
 
