@@ -1,5 +1,5 @@
 -- The choice on a node is the first ask, in the order of service, that is admitted there.
-use Rattle.cap_propose.proofs.Prelude.{◌≡◌, ℕ, zero, suc, true, false, List, [], ◌∷◌, ◌++◌, Some, None, refl, sym, ◌∙◌, ap, subst, inl, inr, arith, ◌==◌, ◌⊎◌, Option, option_and_then, bytes_eq, filter, find, slice_get, is_gt, and_parts, nat_tests, bytes_eq-Decides, ProposalKind, Ask, same_key, holds_of, ask_at, Sight, AppSight, NodeSight, seen_app, NodeProposal, IsAdmissible, rank_cmp, rank_of, is_after, choice_on, choice_is_computed, rank_cmp_total, not_after_itself, IsIn, each_of, found, in_either, of_filter, of_map, AskEntry, Seen, IsSnapshot, IsAskEntry, AreServedInOrder, asks_for, asks_served, grant_of, served_cmp, sight_in, IsAdmittedAs, IsSeenNode, proposal_of, index_in, slice_get_in}
+use Rattle.cap_propose.proofs.Prelude.{◌≡◌, ℕ, true, false, List, [], ◌∷◌, ◌++◌, Some, None, refl, sym, ◌∙◌, ap, subst, inl, inr, arith, ◌==◌, ◌⊎◌, Option, option_and_then, bytes_eq, filter, find, slice_get, is_gt, and_parts, nat_tests, bytes_eq-Decides, ProposalKind, Ask, same_key, holds_of, ask_at, Sight, AppSight, NodeSight, seen_app, NodeProposal, IsAdmissible, rank_cmp, rank_of, is_after, choice_on, choice_is_computed, rank_cmp_total, not_after_itself, IsIn, each_of, found, in_either, of_filter, of_map, AskEntry, Seen, IsSnapshot, IsAskEntry, AreServedInOrder, asks_for, asks_served, grant_of, served_cmp, sight_in, IsAdmittedAs, IsSeenNode, proposal_of, slice_get_in}
 use Rattle.cap_propose.proofs.Unique.{one_on_node}
 
 module _ (K : ℕ) (seen : Seen) where

@@ -75,3 +75,6 @@ module _ {K : ℕ} (sight : Sight K) (start : ℕ) where
 
 pub within_count : (start n : ℕ) → (n ≡ 0 → ⊥) → start % n < n
 within_count start n some = omega (arith, some)
+
+pub some_count : (n : ℕ) → (n ≡ 0 → ⊥) → 0 < n
+some_count n some = omega (arith, some)

@@ -21,3 +21,15 @@ returns g c =
     admitted g.row.K c.args.snapshot.now c.args.node.now c.args.ask.now c.requires.node c.requires.ask c.in-Some.kind (sym c.room_kind.ensures ∙ c.in-Some.is) (sym c.suits.ensures ∙ c.if-not-suits.false)
     (sym c.has_numbers.ensures ∙ c.if-not-has_numbers.false)
     (ap (is_in_limits c.args.snapshot.now c.args.ask.now) (sym c.room_back.ensures) ∙ sym c.is_in_limits.ensures ∙ c.if-not-is_in_limits.false)
+
+pub room_kind-requires : goal.room_kind-requires
+room_kind-requires g c = (c.requires.fits.node, c.requires.fits.ask)
+
+pub suits-requires : goal.suits-requires
+suits-requires g c = (c.requires.fits.node, c.requires.fits.ask)
+
+pub has_numbers-requires : goal.has_numbers-requires
+has_numbers-requires g c = c.requires.fits.snapshot
+
+pub room_back-requires : goal.room_back-requires
+room_back-requires g c = (c.requires.fits.node, c.requires.fits.resource)

@@ -6,3 +6,9 @@ returns-then-live-lt-LIVE_MAX g c = numbers_left c.args.snapshot.now c.live.resu
 
 pub returns-else-live-lt-LIVE_MAX : goal.returns-else-live-lt-LIVE_MAX
 returns-else-live-lt-LIVE_MAX g c = numbers_spent c.args.snapshot.now c.live.result c.live.ensures c.if-live-lt-LIVE_MAX.false
+
+pub live-requires : goal.live-requires
+live-requires g c = search
+
+pub next_container-requires : goal.next_container-requires
+next_container-requires g c = search

@@ -19,3 +19,12 @@ returns-clause-admits g c =
     λ yes.
     open_is g.row.K c.args.snapshot.now c.args.ask.now c.requires.ask c.wanted.result c.wanted.ensures c.if-wanted-eq0.false (sym c.has_numbers.ensures ∙ c.if-not-has_numbers.false)
     (ap (is_in_limits c.args.snapshot.now c.args.ask.now) (sym c.zero.ensures) ∙ sym c.is_in_limits.ensures ∙ yes)
+
+pub wanted-requires : goal.wanted-requires
+wanted-requires g c = c.requires.fits.ask
+
+pub has_numbers-requires : goal.has_numbers-requires
+has_numbers-requires g c = c.requires.fits.snapshot
+
+pub zero-requires : goal.zero-requires
+zero-requires g c = c.requires.fits.resource

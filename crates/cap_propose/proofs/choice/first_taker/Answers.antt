@@ -1,5 +1,5 @@
 use Rattle.cap_propose.proofs.Prelude.{◌∙◌, sym, subst, arith, length, ◌<◌, ◌≤◌, IsPassed}
-use Rattle.cap_propose.proofs.Passing.{held_more, last_turn, one_node_more, takes_here}
+use Rattle.cap_propose.proofs.Passing.{below, held_more, last_turn, one_node_more, takes_here}
 use Rattle.cap_propose.proofs.choice.first_taker.Goals as goal
 
 pub loop-turn-preserved-then-skip-gt0 : goal.loop-turn-preserved-then-skip-gt0
@@ -21,18 +21,11 @@ loop-turn-preserved g c =
     )
 
 pub skip-skip-requires : goal.skip-skip-requires
-skip-skip-requires g c =
-    let count = c.node_count-count.ensures.count in
-    let within = c.wrapped-index.ensures.within in
-    let there : c.wrapped-index.result < length c.args.snapshot.now.nodes = omega (arith, count, within) in
-    (c.requires.fits.snapshot, there)
+skip-skip-requires g c = (c.requires.fits.snapshot, subst (λ n. c.wrapped-index.result < n) c.node_count-count.ensures.count c.wrapped-index.ensures.within)
 
 pub node-node-requires : goal.node-node-requires
 node-node-requires g c =
-    let count = c.node_count-count.ensures.count in
-    let within = c.wrapped-index.ensures.within in
-    let there : c.wrapped-index.result < length c.args.snapshot.now.nodes = omega (arith, count, within) in
-    (c.requires.fits.snapshot, (c.requires.fits.node, there))
+    (c.requires.fits.snapshot, (c.requires.fits.node, subst (λ n. c.wrapped-index.result < n) c.node_count-count.ensures.count c.wrapped-index.ensures.within))
 
 pub returns-then-takes : goal.returns-then-takes
 returns-then-takes g c = (
@@ -44,3 +37,29 @@ returns-then-takes g c = (
 
 pub returns : goal.returns
 returns g c = subst (λ n. IsPassed g.row.K c.args.snapshot.now c.args.first n c.args.ask.now) (last_turn c.loop-turn.turn c.args.end c.loop-turn.invariant.0 c.loop-turn-test.false) c.loop-turn.invariant.1
+
+pub node_count-count-requires : goal.node_count-count-requires
+node_count-count-requires g c = c.requires.fits.snapshot
+
+pub wrapped-index-requires-clause-first : goal.wrapped-index-requires-clause-first
+wrapped-index-requires-clause-first g c = subst (λ n. c.args.first < n) (sym c.node_count-count.ensures.count) c.requires.first
+
+pub wrapped-index-requires-clause-turn : goal.wrapped-index-requires-clause-turn
+wrapped-index-requires-clause-turn g c =
+    below c.loop-turn.turn c.args.end (length c.args.snapshot.now.nodes) c.node_count-count.result c.loop-turn-test.true c.requires.end
+    c.node_count-count.ensures.count
+
+pub overflow_sub-end : goal.overflow_sub-end
+overflow_sub-end g c = omega (arith, c.loop-turn-test.true)
+
+pub overflow_add-turn : goal.overflow_add-turn
+overflow_add-turn g c = omega (arith, c.min-turn.ensures, c.loop-turn-test.true, c.ranges.end)
+
+pub overflow_add-turn-in-loop-turn : goal.overflow_add-turn-in-loop-turn
+overflow_add-turn-in-loop-turn g c = omega (arith, c.loop-turn-test.true, c.ranges.end)
+
+pub loop-turn-smaller-then-skip-gt0 : goal.loop-turn-smaller-then-skip-gt0
+loop-turn-smaller-then-skip-gt0 g c = omega (arith, c.min-turn.ensures, c.loop-turn-test.true, c.if-skip-gt0.true)
+
+pub takes-requires : goal.takes-requires
+takes-requires g c = (c.requires.fits.node, c.requires.fits.ask)

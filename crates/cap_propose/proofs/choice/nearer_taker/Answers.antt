@@ -1,4 +1,4 @@
-use Rattle.cap_propose.proofs.Prelude.{◌<◌, length, subst, arith, Taker, IsFirstTaker}
+use Rattle.cap_propose.proofs.Prelude.{length, subst, arith, Taker, IsFirstTaker}
 use Rattle.cap_propose.proofs.Choosing.{entry_is}
 use Rattle.cap_propose.proofs.Passing.{at_most, closed_passed}
 use Rattle.cap_propose.proofs.Walking.{all_nearer, ask_passed, ask_taken, no_asks, none_left, one_more}
@@ -19,31 +19,17 @@ returns-then-nearest-least-clause-nearer g c =
 pub ask-ask-requires : goal.ask-ask-requires
 ask-ask-requires g c =
     let ends = c.requires.whole.ranges.ends c.args.app c.asks_nth-asks.result c.asks_nth-asks.ensures in
-    let most = ends.1 in
-    let test = c.loop-index-test.true in
-    let within : c.loop-index.index < length c.args.snapshot.now.asks = omega (arith, most, test) in
-    (c.requires.fits.snapshot, (c.requires.fits.ask, within))
+    (c.requires.fits.snapshot, (c.requires.fits.ask, omega (arith, ends.1, c.loop-index-test.true)))
 
 pub is_open-requires : goal.is_open-requires
-is_open-requires g c = (
-  c.requires.fits.snapshot,
-  (c.requires.fits.ask, (c.requires.fits, entry_is g.row.K c.args.snapshot.now c.requires.whole c.loop-index.index c.ask-ask.result.now c.ask-ask.ensures)),
-)
+is_open-requires g c =
+    let is = entry_is g.row.K c.args.snapshot.now c.requires.whole c.loop-index.index c.ask-ask.result.now c.ask-ask.ensures in
+    (c.requires.fits.snapshot, (c.requires.fits.ask, (c.requires.fits, is)))
 
 pub first_taker-requires : goal.first_taker-requires
-first_taker-requires g c = (
-  c.requires.fits.snapshot,
-  (
-    c.requires.fits.ask,
-    (
-      c.requires.fits,
-      (
-        entry_is g.row.K c.args.snapshot.now c.requires.whole c.loop-index.index c.ask-ask.result.now c.ask-ask.ensures,
-        (c.requires.first, c.loop-index.invariant.0),
-      ),
-    ),
-  ),
-)
+first_taker-requires g c =
+    let is = entry_is g.row.K c.args.snapshot.now c.requires.whole c.loop-index.index c.ask-ask.result.now c.ask-ask.ensures in
+    (c.requires.fits.snapshot, (c.requires.fits.ask, (c.requires.fits, (is, (c.requires.first, c.loop-index.invariant.0)))))
 
 pub loop-index-preserved-then-not-is_open : goal.loop-index-preserved-then-not-is_open
 loop-index-preserved-then-not-is_open g c =
@@ -88,3 +74,9 @@ returns-clause-nearer g c =
     let test = c.loop-index-test.false in
     none_left g.row.K c.args.snapshot.now c.args.first c.args.app c.asks_nth-asks.result c.asks_nth-asks.ensures c.loop-index.index c.loop-index.auto.index c.args.nearest c.loop-index.nearest c.loop-index.invariant.1
     (omega (arith, most, test))
+
+pub returns-then-nearest-least-clause-within : goal.returns-then-nearest-least-clause-within
+returns-then-nearest-least-clause-within g c = c.loop-index.invariant.0
+
+pub returns-clause-within : goal.returns-clause-within
+returns-clause-within g c = c.loop-index.invariant.0

@@ -1,5 +1,5 @@
 use Rattle.cap_propose.proofs.Prelude.{sym, ap, ◌∙◌, arith, ◌<◌, length, subst, ◌%◌, sight_in, proposal_by_room}
-use Rattle.cap_propose.proofs.Ring.{NoneChosen, none_at_first, node_passed, node_chosen, all_passed, within_count}
+use Rattle.cap_propose.proofs.Ring.{NoneChosen, none_at_first, node_passed, node_chosen, all_passed, some_count, within_count}
 use Rattle.cap_propose.proofs.Choosing.{node_is}
 use Rattle.cap_propose.proofs.Converting.{reservation_fits}
 use Rattle.cap_propose.proofs.Passing.{before_end, below, last_turn, node_at, passed_has_none, past_end, some_proposal}
@@ -12,32 +12,12 @@ returns-then-count-eq0 g c =
     all_passed (sight_in g.row.K c.args.snapshot.now) c.args.start 0 (omega (arith, count, none)) (none_at_first (sight_in g.row.K c.args.snapshot.now) c.args.start)
 
 pub node-node-requires : goal.node-node-requires
-node-node-requires g c =
-    let count = c.node_count-count.ensures.count in
-    let within = c.wrapped.ensures.within in
-    let there : c.wrapped.result < length c.args.snapshot.now.nodes = omega (arith, count, within) in
-    (c.requires.snapshot, (c.requires.node, there))
+node-node-requires g c = (c.requires.snapshot, (c.requires.node, subst (λ n. c.wrapped.result < n) c.node_count-count.ensures.count c.wrapped.ensures.within))
 
 pub conversion-requires : goal.conversion-requires
-conversion-requires g c = (
-  c.requires.snapshot,
-  (
-    c.requires.node,
-    (
-      reservation_fits _ c.requires.proposal,
-      (
-        c.requires.proposal,
-        (
-          c.requires,
-          (
-            node_is g.row.K c.args.snapshot.now c.node_count-count.ensures.whole c.wrapped.result c.node-node.result.now c.node-node.ensures,
-            sym c.reservation.ensures ∙ c.in-Some.is,
-          ),
-        ),
-      ),
-    ),
-  ),
-)
+conversion-requires g c =
+    let is = node_is g.row.K c.args.snapshot.now c.node_count-count.ensures.whole c.wrapped.result c.node-node.result.now c.node-node.ensures in
+    (c.requires.snapshot, (c.requires.node, (reservation_fits _ c.requires.proposal, (c.requires.proposal, (c.requires, (is, sym c.reservation.ensures ∙ c.in-Some.is))))))
 
 pub returns-in-Some-conversion : goal.returns-in-Some-conversion
 returns-in-Some-conversion g c =
@@ -106,3 +86,22 @@ wrapped-requires-2-clause-first g c = within_count c.args.start c.node_count-cou
 
 pub reservation-requires : goal.reservation-requires
 reservation-requires g c = (c.requires.node, reservation_fits _ c.requires.proposal)
+
+pub node_count-count-requires : goal.node_count-count-requires
+node_count-count-requires g c = c.requires.snapshot
+
+pub nonzero_rem-first : goal.nonzero_rem-first
+nonzero_rem-first g c = some_count c.node_count-count.result c.if-count-eq0.false
+
+pub wrapped-requires-clause-turn : goal.wrapped-requires-clause-turn
+wrapped-requires-clause-turn g c =
+    below c.loop-turn.turn c.nearest_taker-nearest.result.turn (length c.args.snapshot.now.nodes) c.node_count-count.result c.loop-turn-test.true c.nearest_taker-nearest.ensures.within
+    c.node_count-count.ensures.count
+
+pub wrapped-requires-2-clause-turn : goal.wrapped-requires-2-clause-turn
+wrapped-requires-2-clause-turn g c =
+    (before_end c.nearest_taker-nearest.result.turn c.node_count-count.result (length c.args.snapshot.now.nodes) c.nearest_taker-nearest.ensures.within c.node_count-count.ensures.count
+    c.if-nearest-count.false).1
+
+pub proposal_by_room-requires : goal.proposal_by_room-requires
+proposal_by_room-requires g c = (c.requires.node, (c.requires.ask, c.requires.proposal))

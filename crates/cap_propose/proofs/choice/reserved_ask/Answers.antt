@@ -8,11 +8,7 @@ loop-index-init g c =
     none_yet g.row.K c.args.snapshot.now c.args.reservation.now asks.result.start asks.result.end (subst (λ app. AreInside c.args.snapshot.now.asks app asks.result.start asks.result.end) c.app.ensures asks.ensures.inside)
 
 pub ask-requires : goal.ask-requires
-ask-requires g c =
-    let most = c.asks_of-asks.ensures.within in
-    let test = c.loop-index-test.true in
-    let within : c.loop-index.index < length c.args.snapshot.now.asks = omega (arith, most, test) in
-    (c.requires.snapshot, (c.requires.ask, within))
+ask-requires g c = (c.requires.snapshot, (c.requires.ask, omega (arith, c.asks_of-asks.ensures.within, c.loop-index-test.true)))
 
 pub returns-then-is_for-clause-first : goal.returns-then-is_for-clause-first
 returns-then-is_for-clause-first g c =
@@ -33,3 +29,9 @@ returns-clause-first g c =
 
 pub is_for-requires : goal.is_for-requires
 is_for-requires g c = (reservation_fits _ c.requires.proposal, c.requires.ask)
+
+pub app-requires : goal.app-requires
+app-requires g c = reservation_fits _ c.requires.proposal
+
+pub asks_of-asks-requires : goal.asks_of-asks-requires
+asks_of-asks-requires g c = c.requires.snapshot
