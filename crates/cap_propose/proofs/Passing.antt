@@ -25,7 +25,10 @@ ring_begins first count h =
     same ∙ ap (λ b. cond b (first + 0) (0 - (count - first))) (sym test)
 
 module _ (K : ℕ) (seen : Seen) (first : ℕ) where
-  -- fewer nodes
+  -- no nodes, and fewer nodes
+  pub none_passed : (end : ℕ) (e : AskEntry) → (0 ≤ end) × IsPassed K seen first 0 e
+  none_passed end e = (omega arith, λ turn node h. absurd (omega (arith, h)))
+
   pub fewer : (e : AskEntry) (m n : ℕ) → m ≤ n → IsPassed K seen first n e → IsPassed K seen first m e
   fewer e m n le p turn node h at unreserved = p turn node (omega (arith, le, h)) at unreserved
 

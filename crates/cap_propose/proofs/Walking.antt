@@ -1,6 +1,6 @@
 -- The nearest node that takes an ask, as the applications are walked over.
 use Rattle.cap_propose.proofs.Prelude.{◌≡◌, ℕ, ◌+◌, ◌-◌, ◌<◌, ◌≤◌, List, [], ◌∷◌, ◌++◌, length, get_or, take, drop, Some, None, refl, sym, ◌∙◌, ap, subst, inl, inr, arith, append_assoc, length-append, length-drop, Option, slice_get, option_map_or, get_or_from_slice_get, slice_get_past, slice_get_within, append-nil, get_or-drop, take_more, take-add, flat_map-append, IsIn, each_of, in_either, in_right, AskEntry, AskRange, IsNextAfter, IsSkip, IsSnapshot, IsUpTo, Seen, asks_between, asks_nth, asks_served, Taker, ArePassed, IsNearer, IsNearest, IsOpen, IsPassed, TakesAt}
-use Rattle.cap_propose.proofs.Passing.{at_most, chosen_there, fewer, held_more, ring_begins}
+use Rattle.cap_propose.proofs.Passing.{at_most, chosen_there, fewer, held_more, none_passed, ring_begins}
 
 module _ (K : ℕ) (seen : Seen) (first : ℕ) where
   -- the first nodes of the ring hold reservations
@@ -8,7 +8,7 @@ module _ (K : ℕ) (seen : Seen) (first : ℕ) where
     pub nothing_nearer : (asks all : List AskEntry) (t : Taker) → t.turn ≤ least → IsNearest K seen first asks t → IsNearest K seen first all t
     nothing_nearer asks all t few near = record {
       passed = λ e m. subst (λ n. IsPassed K seen first n e) (let none : 0 + t.turn ≡ t.turn = omega arith in none)
-          (held_more K seen first e 0 t.turn first (length seen.nodes) least refl (ring_begins first (length seen.nodes) within) held few (λ turn node h. absurd (omega (arith, h))));
+          (held_more K seen first e 0 t.turn first (length seen.nodes) least refl (ring_begins first (length seen.nodes) within) held few (none_passed K seen first 0 e).1);
       chosen = near.chosen;
     }
 

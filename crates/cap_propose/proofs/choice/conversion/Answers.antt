@@ -16,7 +16,8 @@ admits-requires g c =
 pub returns-in_default-admits : goal.returns-in_default-admits
 returns-in_default-admits g c =
     refused_there g.row.K c.args.snapshot.now c.args.reservation.now c.reserved_ask.ensures.whole c.args.node.now c.requires.node c.requires.reservation c.in-Some.index c.ask-ask.result.now c.ask-ask.ensures
-    (c.in-Some.ensures.first.2 c.ask-ask.result.now c.ask-ask.ensures) (subst (IsAdmittedAs (sight_in g.row.K c.args.snapshot.now) c.args.node.now.number c.ask-ask.result.now) c.in_default-admits.is c.admits.ensures)
+    (c.in-Some.ensures.first.2 c.ask-ask.result.now c.ask-ask.ensures)
+    (subst (IsAdmittedAs (sight_in g.row.K c.args.snapshot.now) c.args.node.now.number c.ask-ask.result.now) c.in_default-admits.is c.admits.ensures)
 
 pub returns : goal.returns
 returns g c =

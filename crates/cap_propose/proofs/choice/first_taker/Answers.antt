@@ -1,5 +1,5 @@
 use Rattle.cap_propose.proofs.Prelude.{◌∙◌, sym, subst, arith, length, ◌<◌, ◌≤◌, IsPassed}
-use Rattle.cap_propose.proofs.Passing.{below, held_more, last_turn, one_node_more, takes_here}
+use Rattle.cap_propose.proofs.Passing.{below, held_more, last_turn, none_passed, one_node_more, takes_here}
 use Rattle.cap_propose.proofs.choice.first_taker.Goals as goal
 
 pub loop-turn-preserved-then-skip-gt0 : goal.loop-turn-preserved-then-skip-gt0
@@ -40,6 +40,9 @@ returns g c = subst (λ n. IsPassed g.row.K c.args.snapshot.now c.args.first n c
 
 pub node_count-count-requires : goal.node_count-count-requires
 node_count-count-requires g c = c.requires.fits.snapshot
+
+pub loop-turn-init : goal.loop-turn-init
+loop-turn-init g c = none_passed g.row.K c.args.snapshot.now c.args.first c.args.end c.args.ask.now
 
 pub wrapped-index-requires-clause-first : goal.wrapped-index-requires-clause-first
 wrapped-index-requires-clause-first g c = subst (λ n. c.args.first < n) (sym c.node_count-count.ensures.count) c.requires.first
