@@ -9,8 +9,8 @@ use std::sync::{Arc, Mutex, Wait};
 use std::test::*;
 use std::thread::Threads;
 
-/// How many nodes each snapshot shows that a seat is shown, where it is shown one, and whether the second and the third are the same.
-type Rows = ([Option<usize>; 6], bool);
+/// How many nodes each snapshot shows that a seat is shown, where it is shown one, and how many have the second, before the last and after it.
+type Rows = ([Option<usize>; 6], [Option<usize>; 2]);
 
 /// A seat is shown snapshots, before and after a node registers.
 #[derive(Drop)]
@@ -23,15 +23,16 @@ fn nodes(shown: &Option<Arc<Shown, Global>>) -> Option<usize> {
     Some(shown.as_ref()?.snapshot().node_count())
 }
 
+fn owners(shown: &Option<Arc<Shown, Global>>) -> Option<usize> {
+    Some(Arc::strong_count(shown.as_ref()?))
+}
+
 impl cap_testing::Work for Showing {
     fn work<J: Naming, H: Wait>(&self, rt: &H, shared: &Shared<J>, mut seat: Seat<J>) -> Seat<J> {
         let before = shared.hold_to_schedule(rt).shown(&mut seat);
         let made = shared.hold_to_schedule(rt).show(&mut seat).ok();
         let again = shared.hold_to_schedule(rt).shown(&mut seat);
-        let is_same = match (&made, &again) {
-            (Some(made), Some(again)) => Arc::as_ptr(made) == Arc::as_ptr(again),
-            _ => false,
-        };
+        let before_last = owners(&made);
         let counts = Counts {
             sealed: AtomicU64::new(0),
             failed: AtomicU64::new(0),
@@ -48,7 +49,7 @@ impl cap_testing::Work for Showing {
             nodes(&anew),
             nodes(&made),
         ];
-        *self.rows.lock(rt) = Some((rows, is_same));
+        *self.rows.lock(rt) = Some((rows, [before_last, owners(&made)]));
         seat
     }
 
@@ -65,9 +66,10 @@ fn rows<H: Threads + Wait + Sync>(rt: &H, alloc: Global) -> Option<Rows> {
     *showing.rows.lock(rt)
 }
 
+/// The cluster keeps the snapshot that it shows, and the second and the third are one.
 #[test]
 fn a_snapshot_is_shown_until_something_is_entered(rt: HostRuntime) {
     let rows = rows(&rt, rt.alloc());
     let wanted = [None, Some(0), Some(0), None, Some(1), Some(0)];
-    assert!(rt; rows == Some((wanted, true)));
+    assert!(rt; rows == Some((wanted, [Some(3), Some(2)])));
 }
