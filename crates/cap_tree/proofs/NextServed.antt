@@ -19,6 +19,12 @@ less_from i j l = sym (nat_cmp_is i j Less l)
 not_greater : (i j : ℕ) → i ≤ j → is_gt (nat_cmp i j) ≡ false
 not_greater i j le = elim (cases_lt i j) [ inl l ↦ ap is_gt (less_from i j l) | inr g ↦ ap is_gt (sym (nat_cmp_is i j Equal (let e : i ≡ j = omega (arith, le, g) in e))) ]
 
+less_not_equal : Less ≡ Equal → ⊥
+less_not_equal e = cc e
+
+less_not_greater : Less ≡ Greater → ⊥
+less_not_greater e = cc e
+
 module _ (ss : List (Spot SeenQueue)) (waiting : List (List ℕ)) (links : List ℕ) (tree : IsSeenTree ss waiting links) where
   abbrev rows : List Row
   rows = rows_seen ss
@@ -114,7 +120,7 @@ module _ (ss : List (Spot SeenQueue)) (waiting : List (List ℕ)) (links : List 
         let less = less_numbers a j (ap (λ o. ordering_then o (nat_cmp a j)) (sym (same_place p q (sym same))) ∙ later_cases j q h later) in
         let some = (link.least j (omega (arith, less)) (h ∙ ap Some same)).0 in
         absurd (omega (arith, some, z))
-    none_here z j q h later (inr before) = let l = later_cases j q h later in let t = ap (λ o. ordering_then o (nat_cmp a j)) (turned p q before) in cc (l, t)
+    none_here z j q h later (inr before) = less_not_greater (sym (later_cases j q h later) ∙ ap (λ o. ordering_then o (nat_cmp a j)) (turned p q before))
 
     pub none_next : get_or links a 0 ≡ 0 → HasNoMarkAfter seen_cmp (λ q. q.first) ss p → IsNextServed rows waiting (Some a) None
     none_next z none j lt later = let h = waits_at j lt in none_here z j (place j) h later (none (place j) (has_mark j (place j) h).0)
@@ -148,9 +154,9 @@ module _ (ss : List (Spot SeenQueue)) (waiting : List (List ℕ)) (links : List 
           }
         where
           by : (j : ℕ) (q : List ℕ) → slice_get waiting j ≡ Some q → IsLater rows waiting (Some a) j → (o : Ordering) → cmp_at p q ≡ o → is_gt (waiting_cmp rows waiting (get_or links a 0 - 1) j) ≡ false
-          by j q h later Less e = not_after (get_or links a 0) j p q (link.there some).1 h (λ same. let t = same_place p q same in absurd (cc (t, e))) (inr e)
+          by j q h later Less e = not_after (get_or links a 0) j p q (link.there some).1 h (λ same. absurd (less_not_equal (sym e ∙ same_place p q same))) (inr e)
           by j q h later Equal e =
               let same = differ p q (is_there a p at) (is_there j q h) e in
               let less = less_numbers a j (ap (λ o. ordering_then o (nat_cmp a j)) (sym e) ∙ later_cases j q h later) in
               not_after (get_or links a 0) j p q (link.there some).1 h (λ _. (link.least j (omega (arith, less)) (h ∙ ap Some (sym same))).1) (inl same)
-          by j q h later Greater e = let l = later_cases j q h later in let t = ap (λ o. ordering_then o (nat_cmp a j)) e in absurd (cc (l, t))
+          by j q h later Greater e = absurd (less_not_greater (sym (later_cases j q h later) ∙ ap (λ o. ordering_then o (nat_cmp a j)) e))

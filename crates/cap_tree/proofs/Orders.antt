@@ -1,6 +1,6 @@
 -- Indexes of children that are kept in the order of service.
 use denote.Ref.{Bor}
-use Rattle.cap_tree.proofs.Prelude.{◌≡◌, ℕ, true, false, ◌+◌, ◌-◌, ◌<◌, ◌≤◌, Bool, List, [], ◌∷◌, length, get_or, Option, Some, None, refl, sym, ◌∙◌, ap, arith, subst, inl, inr, ◌⊎◌, IfSome, MatchOption, is_some, nat_lt, All, insert, slice_get, option_cmp, option_copied, ordering_reverse, is_gt, is_lt, Ordering, Less, Equal, Greater, IsTotalOrder, options_total, cases_lt, ltb-false, ltb-true, tied_itself, get_or_default, get_or_past, get_or-insert_at, get_or-insert_below, get_or-insert_above, length-insert, slice_get-get_or, slice_get_past, slice_get_read, holds_of, AreSpots, AreApart, AreSorted, ComesAfter, HasNoneAfter, HasPathsOnce, IsFirstAfter, IsOrderOf, IsPlaceAfter, IsThere, IsTop, child_cmp, child_item, children_at, kid_items, that_pass, Spot, HoldsOfItem, item_at, spots}
+use Rattle.cap_tree.proofs.Prelude.{◌≡◌, ℕ, true, false, ◌+◌, ◌-◌, ◌<◌, ◌≤◌, Bool, List, [], ◌∷◌, length, get_or, Option, Some, None, refl, sym, ◌∙◌, ap, arith, subst, inl, inr, ◌⊎◌, IfSome, MatchOption, is_some, nat_lt, All, insert, slice_get, option_cmp, option_copied, ordering_reverse, is_gt, is_lt, Ordering, Less, Equal, Greater, IsTotalOrder, options_total, cases_lt, ltb-false, ltb-true, tied_itself, get_or_default, get_or_past, get_or-insert_at, get_or-insert_below, get_or-insert_above, length-insert, slice_get-get_or, slice_get_past, slice_get_read, holds_of, AreSpots, AreApart, AreSorted, ComesAfter, HasNoneAfter, HasPathsOnce, IsFirstAfter, IsOrderOf, IsPlaceAfter, IsThere, IsTop, child_cmp, child_item, children_at, kid_items, that_pass, Spot, HoldsOfItem, item_at, spots, is_ne, ordering_then}
 use Rattle.cap_tree.proofs.Service.{less_is, not_less, passing_there, there_passing, there_within}
 use Rattle.cap_tree.proofs.Spots.{item_at-spots}
 use Rattle.cap_tree.proofs.Walks.{two, within}
@@ -231,3 +231,21 @@ passing_differ order test child apart i j ti tj same =
     let p = there_passing test child i ti in
     let q = there_passing test child j tj in
     apart i j (subst (HoldsOfItem (λ _. Unit {0})) p ti) (subst (HoldsOfItem (λ _. Unit {0})) q tj) (sym (λ k. option_cmp order (p k) (q k)) ∙ same)
+
+-- where two orders follow each other, the first decides if it tells them apart, and the second otherwise
+pub told_apart : (a b : Ordering) → is_ne a ≡ true → a ≡ ordering_then a b
+told_apart Less b e = refl
+told_apart Equal b e = absurd (cc e)
+told_apart Greater b e = refl
+
+pub alike : (a b : Ordering) → is_ne a ≡ false → b ≡ ordering_then a b
+alike Less b e = absurd (cc e)
+alike Equal b e = refl
+alike Greater b e = absurd (cc e)
+
+pub none_in_order : {T : Type 0} (order : T → T → Ordering) (child : ℕ → Option T) → IsOrderOf order child 0 []
+none_in_order order child = record {
+  sorted = record { there = λ a w. absurd (omega (arith, w)); rises = λ a b l w. absurd (omega (arith, w)) };
+  early = λ a w. absurd (omega (arith, w));
+  all = λ j w. absurd (omega (arith, w));
+}

@@ -1,7 +1,8 @@
 -- What the proofs here take from elsewhere.
-pub use Rattle.std.proofs.Common.{Bool, Err, IfSome, List, MatchOption, None, Ok, Option, Result, Some, [], ap, arith, cond, drop, eqb, false, filter, get_or, inl, inr, length, length-drop, map, refl, rules, set, subst, suc, sum_by, sym, take, true, zero, ℕ, ◌&&◌, ◌*◌, ◌++◌, ◌+◌, ◌-◌, ◌/◌, ◌<◌, ◌^◌, ◌∙◌, ◌∷◌, ◌≡◌, ◌≢◌, ◌≤◌, ◌⊎◌}
+pub use Rattle.std.proofs.Common.{Bool, Err, IfSome, List, MatchOption, None, Ok, Option, Result, Some, [], add-one, ap, arith, cond, drop, eqb, false, filter, get_or, inl, inr, length, length-drop, map, refl, rules, set, subst, suc, sum_by, sym, take, true, zero, ℕ, ◌&&◌, ◌*◌, ◌++◌, ◌+◌, ◌-◌, ◌/◌, ◌<◌, ◌^◌, ◌∙◌, ◌∷◌, ◌≡◌, ◌≢◌, ◌≤◌, ◌⊎◌}
+pub use Rattle.std.proofs.Math.Nat.{one-le_iff_ne-zero}
 pub use Rattle.std.proofs.Math.Seq.{drop-cons, get_or-append_seam}
-pub use Rattle.std.proofs.lemmas.Bool.{and_from, and_parts, cases_eq, cases_lt, eq-eqb, eqb-true, false_from_ne_true, ltb-false, ltb-true, ne_eqb}
+pub use Rattle.std.proofs.lemmas.Bool.{and_from, and_parts, cases_eq, cases_lt, eq-eqb, eqb-true, false_from_ne_true, false≢true, ltb-false, ltb-true, ne_eqb}
 pub use Rattle.std.proofs.lemmas.Bool.Decides.{nat_tests}
 pub use Rattle.std.proofs.lemmas.Cmp.{lists_total, on_total, tied_itself, upto}
 pub use Rattle.std.proofs.lemmas.List.{append-nil, append_assoc, drop-map, drop_all, get_or-map, get_or-set_other, get_or-set_same, get_or_append_left, get_or_default, get_or_past, length-append, length-map, length-set, length-take, length-take-le, map-append, map-id, map_push, nil_from_length, set-get_or, take_all, take_more}

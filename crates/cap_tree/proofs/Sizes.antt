@@ -7,6 +7,8 @@ use prog.Memory.{size, field_of, field_at}
 use prog.Align.{field_in}
 use denote.Ref.{NamedLft}
 use denote.Param.{layout, number, param}
+use Rattle.std.specs.contracts.alloc.Global as global
+use Rattle.std.specs.contracts.impls.GlobalAllocator.TheImpl as global_allocator
 use Rattle.smallvec.specs.contracts.small_vec.SmallVec as path
 use Rattle.cap_vector.specs.contracts.fullness.Shares as shares
 use Rattle.cap_vector.specs.contracts.vector.Amounts as amounts
@@ -59,6 +61,9 @@ queue_fits K A alloc = part_fits (layout (tree.the_row K A alloc)) (0 ∷ 0 ∷ 
 pub seen_fits : (K A : RattleType) (alloc : Ghosts A.Denot) → FitsInMemory (seen_tree.the_row K A alloc) → FitsInMemory (seen_queue.the_row K A alloc)
 seen_fits K A alloc = part_fits (layout (seen_tree.the_row K A alloc)) (0 ∷ 0 ∷ [])
 
+pub name_in_seen : (K A : RattleType) (alloc : Ghosts A.Denot) → FitsInMemory (seen_queue.the_row K A alloc) → FitsInMemory (path.the_row denote.Builtin.u8 (number 24) A alloc)
+name_in_seen K A alloc = part_fits (layout (seen_queue.the_row K A alloc)) (0 ∷ [])
+
 pub amounts_in_seen : (K MAX A : RattleType) (alloc : Ghosts A.Denot) → FitsInMemory (seen_queue.the_row K A alloc) → FitsInMemory (amounts.the_row K MAX)
 amounts_in_seen K MAX A alloc = part_fits (layout (seen_queue.the_row K A alloc)) (1 ∷ [])
 
@@ -76,6 +81,16 @@ amounts_in_queue K MAX A alloc = part_fits (layout (queue.the_row K A alloc)) (1
 
 pub shares_in_queue : (K A : RattleType) (alloc : Ghosts A.Denot) → FitsInMemory (queue.the_row K A alloc) → FitsInMemory (shares.the_row K)
 shares_in_queue K A alloc = part_fits (layout (queue.the_row K A alloc)) (6 ∷ [])
+
+-- the queue that one is copied from
+pub source_fits : (K : RattleType) → FitsInMemory (tree.the_row K global.the_row global_allocator.ghosts) → FitsInMemory (queue.the_row K global.the_row global_allocator.ghosts)
+source_fits K = queue_fits K global.the_row global_allocator.ghosts
+
+pub amounts_in_source : (K MAX : RattleType) → FitsInMemory (queue.the_row K global.the_row global_allocator.ghosts) → FitsInMemory (amounts.the_row K MAX)
+amounts_in_source K MAX = amounts_in_queue K MAX global.the_row global_allocator.ghosts
+
+pub shares_in_source : (K : RattleType) → FitsInMemory (queue.the_row K global.the_row global_allocator.ghosts) → FitsInMemory (shares.the_row K)
+shares_in_source K = shares_in_queue K global.the_row global_allocator.ghosts
 
 pub row_fits : (n : ℕ) (A : RattleType) (alloc : Ghosts A.Denot) → FitsInMemory (queue.the_row (param 0 (number n)) A alloc) → FitsInMemory (row.the_row (param 0 (number n)))
 row_fits n A alloc fits = omega (arith, fits)

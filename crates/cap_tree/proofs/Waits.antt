@@ -1,5 +1,7 @@
 -- One more waits in a tree that a snapshot keeps: its marks and links.
-use Rattle.cap_tree.proofs.Prelude.{◌≡◌, ℕ, zero, suc, ◌+◌, ◌-◌, ◌<◌, ◌≤◌, Bool, true, false, cond, List, [], ◌∷◌, ◌++◌, length, get_or, set, map, drop, Option, Some, None, refl, sym, ◌∙◌, ap, subst, arith, inl, inr, ◌⊎◌, ◌==◌, ◌&&◌, if◌then◌else◌, bytes_eq, option_map, slice_get, option_map_or, get_or-append_seam, cases_eq, cases_lt, eq-eqb, eqb-true, ne_eqb, get_or_append_left, get_or-set_other, get_or-set_same, length-append, length-set, slice_get_within, bytes_eq-Decides, holds_of, Queue, Row, AreRows, IsFirstFrom, IsLast, IsSeenTree, SeenQueue, not_waiting, rows_seen, waiting_at, waiting_below, Spot, HoldsOfItem, IsPosition, change_along, item_at, leads_to, made_of, AreMarked, mark_at}
+use mir.Syntax.{w32}
+use mir.Val.{Fits}
+use Rattle.cap_tree.proofs.Prelude.{◌≡◌, ℕ, zero, suc, ◌+◌, ◌-◌, ◌<◌, ◌≤◌, Bool, true, false, cond, List, [], ◌∷◌, ◌++◌, ◌≢◌, length, get_or, set, map, drop, Option, Some, None, refl, sym, ◌∙◌, ap, subst, arith, inl, inr, ◌⊎◌, ◌==◌, ◌&&◌, if◌then◌else◌, bytes_eq, option_map, slice_get, option_map_or, get_or-append_seam, cases_eq, cases_lt, eq-eqb, eqb-true, ne_eqb, get_or_append_left, get_or-set_other, get_or-set_same, length-append, length-set, slice_get_within, bytes_eq-Decides, holds_of, Queue, Row, AreRows, IsFirstFrom, IsLast, IsSeenTree, SeenQueue, not_waiting, rows_seen, waiting_at, waiting_below, Spot, HoldsOfItem, IsPosition, change_along, item_at, leads_to, made_of, AreMarked, mark_at}
 use Rattle.cap_tree.proofs.Copies.{change-made, item_at-made, made-back}
 use Rattle.cap_tree.proofs.RowPaths.{same_position}
 
@@ -182,6 +184,13 @@ last_within ss waiting links tree way = by (mark_at (λ q. q.last) way ss) (tree
     by : (n : ℕ) → IsLast waiting way n → n ≤ length links
     by zero is = omega arith
     by (suc n) is = let w = slice_get_within waiting (suc n - 1) way (is.there (omega arith)) in let m = tree.many in omega (arith, w, m)
+
+-- a mark is 1 + an index, and fits where few wait
+pub index_of_mark : (mark most : ℕ) → mark ≢ 0 → mark ≤ most → mark - 1 < most
+index_of_mark mark most some few = omega arith
+
+pub mark_fits : (count waiting : ℕ) → count ≡ waiting → waiting < 4294967295 → Fits w32 (count + 1)
+mark_fits count waiting is few = omega arith
 
 -- the links, where the one of the last so far leads on
 abbrev pub links_after : List ℕ → ℕ → ℕ → List ℕ

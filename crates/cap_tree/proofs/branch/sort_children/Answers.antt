@@ -1,5 +1,5 @@
-use Rattle.cap_tree.proofs.Prelude.{arith, ◌≡◌, ◌∙◌, length, subst, sym, Some, IsOrderOf, IsPlaceAfter, kid_items, that_pass, HoldsOfItem}
-use Rattle.cap_tree.proofs.Orders.{kid_item, left_out, passing_differ, put_in}
+use Rattle.cap_tree.proofs.Prelude.{arith, ◌≡◌, ◌∙◌, length, subst, sym, Some, IsOrderOf, IsPlaceAfter, kid_items, that_pass, HoldsOfItem, false≢true}
+use Rattle.cap_tree.proofs.Orders.{kid_item, left_out, none_in_order, passing_differ, put_in}
 use Rattle.cap_tree.proofs.Service.{failing, passing}
 use Rattle.cap_tree.proofs.branch.sort_children.Goals.{then-waits+in-Ok, else-waits}
 use Rattle.cap_tree.proofs.branch.sort_children.Goals as goal
@@ -26,3 +26,12 @@ pub returns : goal.returns
 returns g c =
     let all : c.loop-i.i ≡ length c.args.children.now = omega (arith, c.loop-i.auto.i-end, c.loop-i-test.false) in
     λ room. subst (λ n. IsOrderOf g.T.TreeItem.order (that_pass g.T.TreeItem.waits (kid_items c.args.children.now)) n c.loop-i.order.items) all c.loop-i.invariant
+
+pub loop-i-init : goal.loop-i-init
+loop-i-init g c = rw c.clear.ensures.items (none_in_order g.T.TreeItem.order (that_pass g.T.TreeItem.waits (kid_items c.args.children.now)))
+
+pub place_after-last-requires : goal.place_after-last-requires
+place_after-last-requires g c = rw c.deref.ensures.value c.loop-i.invariant.sorted
+
+pub returns-in-Err : goal.returns-in-Err
+returns-in-Err g c room = absurd (false≢true room)

@@ -1,4 +1,4 @@
-use Rattle.cap_tree.proofs.Prelude.{queues_of, rules, ◌∙◌, ap, arith, subst, ◌-◌, ◌≡◌, ◌++◌, drop_all, take_all, depth, IsGrowing}
+use Rattle.cap_tree.proofs.Prelude.{queues_of, ◌∙◌, ap, arith, subst, ◌-◌, ◌≡◌, ◌++◌, drop_all, take_all, depth, IsGrowing}
 use Rattle.cap_tree.proofs.Growing.{grow_next, next_level, unused_stored, unused_own, grown_few}
 use Rattle.cap_tree.proofs.tree.add_all.Goals as goal
 
@@ -17,24 +17,6 @@ loop-row-preserved g c =
     let n = grow_next g.row.K c.loop-row.root c.add.new.self c.args.root.now c.args.rows.now c.loop-row.row-index (c.depth-levels.result - 1) c.row-item.result c.in-Ok.queue c.loop-row-test.true c.row-item.is
     c.loop-row.invariant.growing c.loop-row.invariant.queues (ap (λ k. k - 1) d) c.in-Ok.ensures.0 c.in-Ok.ensures.1 c.in-Ok-add.ensures.ok in
     record { growing = n.0.growing; queues = n.1 }
-
-pub path-path-requires : goal.path-path-requires
-path-path-requires g c = search rules
-
-pub as_bytes-requires : goal.as_bytes-requires
-as_bytes-requires g c = search rules
-
-pub returns-in-Err-clause-grown : goal.returns-in-Err-clause-grown
-returns-in-Err-clause-grown g c = search rules
-
-pub returns-in-Err-clause-queues : goal.returns-in-Err-clause-queues
-returns-in-Err-clause-queues g c = search rules
-
-pub returns-in-Err-add-clause-grown : goal.returns-in-Err-add-clause-grown
-returns-in-Err-add-clause-grown g c = search rules
-
-pub returns-in-Err-add-clause-queues : goal.returns-in-Err-add-clause-queues
-returns-in-Err-add-clause-queues g c = search rules
 
 pub new-requires : goal.new-requires
 new-requires g c = ((search), ((search), c.path-path.ensures))

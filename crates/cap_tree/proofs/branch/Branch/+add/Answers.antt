@@ -1,4 +1,4 @@
-use Rattle.cap_tree.proofs.Prelude.{rules, arith, ◌≡◌, ◌≤◌, ◌-◌, length, refl, ◌∙◌, ap, set, sym, subst, [], vec_len, on_ok_weaker, on_err_weaker, length-set, set-get_or, nil_from_length, All-set, first_of, spots, IsAdded, AreSpots, root_count}
+use Rattle.cap_tree.proofs.Prelude.{arith, ◌≡◌, ◌≤◌, ◌-◌, length, refl, ◌∙◌, ap, set, sym, subst, [], vec_len, on_ok_weaker, on_err_weaker, length-set, set-get_or, nil_from_length, All-set, first_of, spots, IsAdded, AreSpots, root_count, false≢true}
 use Rattle.cap_tree.proofs.Spots.{sum-set_child}
 use Rattle.cap_tree.proofs.Adding.{added_below, added_at_leaf, none_below}
 use Rattle.cap_tree.proofs.Trees.{tree_of, trees_filled}
@@ -20,7 +20,7 @@ invariant_of-self g t c =
         trees = All-set (AreSpots g.T.TreeItem.name) kids n c.add.new.self c.add.ensures.tree c.self.invariant.0.trees;
         few = omega (arith, ls, c.self.invariant.0.few);
       },
-      λ sorted. absurd (cc sorted),
+      λ sorted. absurd (false≢true sorted),
     )
 
 pub returns-in-Some-clause-ok : goal.returns-in-Some-clause-ok
@@ -43,15 +43,6 @@ add_child-requires-in-None-clause-stored g t c = c.requires.stored
 
 pub add_child-requires-in-None-clause-own : goal.add_child-requires-in-None-clause-own
 add_child-requires-in-None-clause-own g t c = c.requires.own
-
-pub returns-then-levels-eq0-clause-err : goal.returns-then-levels-eq0-clause-err
-returns-then-levels-eq0-clause-err g t c = search rules
-
-pub returns-then-levels-eq0-clause-kept : goal.returns-then-levels-eq0-clause-kept
-returns-then-levels-eq0-clause-kept g t c = search rules
-
-pub returns-then-levels-eq0-clause-tree : goal.returns-then-levels-eq0-clause-tree
-returns-then-levels-eq0-clause-tree g t c = search rules
 
 pub returns-in-Some-clause-tree : goal.returns-in-Some-clause-tree
 returns-in-Some-clause-tree g t c =

@@ -1,5 +1,5 @@
 use Rattle.cap_tree.proofs.branch.Branch.+change.Goals.{In-Err}
-use Rattle.cap_tree.proofs.Prelude.{AreSpots, IsBranch, ℕ, rules, ap, arith, get_or, drop, ◌-◌, take, length, subst, sym, ◌∙◌, ◌≡◌, set, ◌+◌, ◌<◌, List, Result, Ok, Err, on_ok_weaker, length-set, set-get_or, All-set, OnOk, OnErr, HoldsOfItem, Spot, first_of, item_at, spots}
+use Rattle.cap_tree.proofs.Prelude.{AreSpots, IsBranch, ℕ, rules, ap, arith, get_or, drop, ◌-◌, take, length, subst, sym, ◌∙◌, ◌≡◌, set, ◌+◌, ◌<◌, List, Result, Ok, Err, on_ok_weaker, on_err_weaker, length-set, set-get_or, All-set, OnOk, OnErr, HoldsOfItem, Spot, first_of, item_at, spots, false≢true}
 use Rattle.cap_tree.proofs.Spots.{steps-empty, as_in_child, changed_at_root, in_child, changed_in_child, child-le-sum, sum-set_child}
 use Rattle.cap_tree.proofs.Rooms.{room_in_child}
 use Rattle.cap_tree.proofs.Trees.{tree_changed}
@@ -90,7 +90,7 @@ invariant_of-self-in-Ok g t c =
         trees = All-set (AreSpots g.T.TreeItem.name) c.self.inside.children.items i c.change.new.self changed c.self.invariant.0.trees;
         few = let l = length-set c.self.inside.children.items i c.change.new.self in omega (arith, l, c.self.invariant.0.few);
       },
-      λ sorted. absurd (cc sorted),
+      λ sorted. absurd (false≢true sorted),
     )
 
 pub returns-in-empty-clause-changed : goal.returns-in-empty-clause-changed
@@ -105,18 +105,6 @@ returns-in-Err-clause-grows g t c =
     let same = as_in_child g.T.TreeItem.name c.self.inside.item c.self.inside.children.items c.args.self.now c.args.steps.now c.index_mut-child.result.now c.self.view_is c.in-len1-up.len_at_least into.within c.index_mut-child.ensures.value in
     subst (HoldsOfItem (g.C.Change.grows c.args.change.now)) (sym same) c.in-Err.ensures.grows
 
-pub returns-in-Err-clause-changed : goal.returns-in-Err-clause-changed
-returns-in-Err-clause-changed g t c = search rules
-
-pub returns-in-Err-clause-moved : goal.returns-in-Err-clause-moved
-returns-in-Err-clause-moved g t c = search rules
-
-pub returns-in-Ok-clause-unchanged : goal.returns-in-Ok-clause-unchanged
-returns-in-Ok-clause-unchanged g t c = search rules
-
-pub returns-in-Ok-clause-grows : goal.returns-in-Ok-clause-grows
-returns-in-Ok-clause-grows g t c = search rules
-
 pub returns-in-Ok-clause-moved : goal.returns-in-Ok-clause-moved
 returns-in-Ok-clause-moved g t c m = rw (← c.self.view_is, c.change_above.ensures) (g.met.C.Change.stored_above c.args.change.now c.self.inside.item m)
 
@@ -128,7 +116,7 @@ same_kids g t c =
     ap (set kids i) (c.in-Err.ensures.unchanged ∙ c.index_mut-child.ensures.value) ∙ set-get_or kids i c.index_mut-child.result.now
 
 pub invariant_of-self-in-Err : goal.invariant_of-self-in-Err
-invariant_of-self-in-Err g t c = (subst (IsBranch g.T.TreeItem.name g.T.TreeItem.stored g.T.TreeItem.own c.self.inside.item) (sym (same_kids g t c)) c.self.invariant.0, λ sorted. absurd (cc sorted))
+invariant_of-self-in-Err g t c = (subst (IsBranch g.T.TreeItem.name g.T.TreeItem.stored g.T.TreeItem.own c.self.inside.item) (sym (same_kids g t c)) c.self.invariant.0, λ sorted. absurd (false≢true sorted))
 
 pub returns-in-Err-clause-unchanged : goal.returns-in-Err-clause-unchanged
 returns-in-Err-clause-unchanged g t c = ap (spots g.T.TreeItem.name c.self.inside.item) (same_kids g t c) ∙ c.self.view_is
@@ -178,3 +166,9 @@ invariant_of-self g t c =
       },
       c.self.invariant.1,
     )
+
+pub returns-in-empty-clause-grows : goal.returns-in-empty-clause-grows
+returns-in-empty-clause-grows g t c = on_err_weaker c.change_at.result (λ p. rw (steps-empty c.args.steps.now c.in-empty.len_below, ← c.self.view_is) p) c.change_at.ensures.grows
+
+pub returns-in-empty-clause-unchanged : goal.returns-in-empty-clause-unchanged
+returns-in-empty-clause-unchanged g t c = on_err_weaker c.change_at.result (λ e. ap (λ x. spots g.T.TreeItem.name x c.self.inside.children.items) e ∙ c.self.view_is) c.change_at.ensures.err

@@ -1,4 +1,4 @@
-use Rattle.cap_tree.proofs.Prelude.{rules, arith, ◌≡◌, ◌<◌, length, ◌∙◌, ap, subst, get_or, vec_len}
+use Rattle.cap_tree.proofs.Prelude.{rules, arith, ◌≡◌, ◌<◌, length, ◌∙◌, ap, subst, get_or, vec_len, false≢true}
 use Rattle.cap_tree.proofs.Finds.{child-lt}
 use Rattle.cap_tree.proofs.Copies.{made-spots, branch_made, copied_more, copied_all, copied_length}
 use Rattle.cap_tree.proofs.branch.Branch.+copy_in.Goals as goal
@@ -39,7 +39,7 @@ invariant_of-result g t c =
     let all = copied_all g.T.CopyIn.copied c.deref-child-items.result.now c.loop-child.child-index c.self.inside.children.items c.loop-child.children.items c.deref-child-items.ensures.value (omega (arith, c.loop-child-test.false)) c.loop-child.invariant.items in (
       rw (all, c.in-Ok.ensures)
           (branch_made g.T.CopyIn.copied g.T.TreeItem.name g.T.TreeItem.stored g.T.TreeItem.own g.U.TreeItem.name g.U.TreeItem.stored g.U.TreeItem.own g.met.T.CopyIn.name_copied g.met.T.CopyIn.stored_copied g.met.T.CopyIn.own_copied c.self.inside.item c.self.inside.children.items c.self.invariant.0),
-      λ sorted. absurd (cc sorted),
+      λ sorted. absurd (false≢true sorted),
     )
 
 pub returns : goal.returns

@@ -1,4 +1,4 @@
-use Rattle.std.proofs.Common.{arith, ◌+◌, ◌<◌, length}
+use Rattle.std.proofs.Common.{arith, ◌+◌, ◌<◌, ◌∙◌, length, subst}
 use Rattle.cap_tree.proofs.Counting.{length-spots, sum_more, sum_some, sum_all}
 use Rattle.cap_tree.proofs.branch.Branch.+count_down.Goals as goal
 
@@ -23,3 +23,9 @@ returns g t c =
     let all = length-spots g.T.TreeItem.name c.self.inside.item kids c.args.self.now c.self.view_is in
     let whole = sum_all kids c.loop-i.i (omega arith) in
     omega (arith, all, whole, c.loop-i.invariant)
+
+pub loop-i-preserved : goal.loop-i-preserved
+loop-i-preserved g t c =
+    let kids = c.self.inside.children.items in
+    let more = sum_more kids c.loop-i.i c.index-child.result.now (subst (λ n. c.loop-i.i < n) (c.len-children.ensures ∙ c.self.inside.children.ok.0) c.loop-i-test.true) c.index-child.ensures in
+    omega (arith, more, c.in-Some.ensures, c.loop-i.invariant)

@@ -1,4 +1,4 @@
-use Rattle.cap_tree.proofs.Prelude.{rules, arith, ◌≡◌, ◌<◌, ◌∙◌, ap, length, subst, sym, set, set-get_or, IsBranch, AreApart, IsOrderOf, kid_items, that_pass, spots}
+use Rattle.cap_tree.proofs.Prelude.{rules, arith, ◌≡◌, ◌<◌, ◌≤◌, ◌∙◌, ap, length, subst, sym, set, set-get_or, IsBranch, AreApart, IsOrderOf, kid_items, that_pass, spots}
 use Rattle.cap_tree.proofs.Finds.{child-lt}
 use Rattle.cap_tree.proofs.Orders.{kids_differ}
 use Rattle.cap_tree.proofs.Service.{once_in_child}
@@ -35,3 +35,9 @@ invariant_of-self g t c = (
 
 pub returns : goal.returns
 returns g t c = (λ i. spots g.T.TreeItem.name (c.loop-i.invariant.item i) (c.loop-i.invariant.children i)) ∙ c.self.view_is
+
+pub index_mut-requires : goal.index_mut-requires
+index_mut-requires g t c = let kids = ap length c.loop-i.invariant.children in omega (arith, kids, c.loop-i-test.true, c.len-i-end.ensures)
+
+pub sort_children-self-inside-requires-clause-few : goal.sort_children-self-inside-requires-clause-few
+sort_children-self-inside-requires-clause-few g t c = subst (λ ks. length ks ≤ 4294967295) (sym (c.deref.ensures.value ∙ c.loop-i.invariant.children)) c.self.invariant.0.few

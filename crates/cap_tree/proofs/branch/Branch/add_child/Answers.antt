@@ -1,4 +1,4 @@
-use Rattle.cap_tree.proofs.Prelude.{rules, arith, ◌≡◌, ◌++◌, ◌∷◌, [], ap, sym, ◌∙◌, subst, refl, length, All, All-append, All-cons, All-nil, sum_by-append, spots, first_of, IsAdded, AreSpots, IsBranch, root_count}
+use Rattle.cap_tree.proofs.Prelude.{arith, ◌≡◌, ◌++◌, ◌∷◌, [], ap, sym, ◌∙◌, subst, refl, length, All, All-append, All-cons, All-nil, sum_by-append, spots, first_of, IsAdded, AreSpots, IsBranch, root_count, false≢true}
 use Rattle.std.proofs.Common.{length-append}
 use Rattle.std.specs.List.{sum_by}
 use Rattle.cap_tree.proofs.Adding.{added_here, kids-lt}
@@ -11,12 +11,6 @@ returns-clause-ok g c =
     let e : c.push.new.self.items ≡ kids ++ spots g.T.TreeItem.name c.args.item [] ∷ [] = c.in-Ok.ensures.items ∙ ap (λ x. kids ++ x ∷ []) c.leaf.ensures in
     subst (λ k. IsAdded 0 (g.T.TreeItem.name c.args.item) c.args.item c.args.self.now (spots g.T.TreeItem.name c.self.inside.item k)) (sym e)
     (added_here 0 g.T.TreeItem.name c.self.inside.item c.args.item kids c.args.self.now c.self.view_is refl)
-
-pub returns-in-Err-clause-ok : goal.returns-in-Err-clause-ok
-returns-in-Err-clause-ok g c = search rules
-
-pub returns-clause-err : goal.returns-clause-err
-returns-clause-err g c = search rules
 
 trees_more : (g : _) (c : goal.In-Ok g) → All (AreSpots g.T.TreeItem.name) c.push.new.self.items
 trees_more g c =
@@ -52,7 +46,7 @@ invariant_of-self-2 g c =
         trees = trees_more g c;
         few = omega (arith, fewer, n, l, c.requires.few);
       },
-      λ sorted. absurd (cc sorted),
+      λ sorted. absurd (false≢true sorted),
     )
 
 pub returns-clause-kept : goal.returns-clause-kept
@@ -62,7 +56,7 @@ pub returns-in-Err-clause-kept : goal.returns-in-Err-clause-kept
 returns-in-Err-clause-kept g c = λ m. ap (λ ss. root_count g.T.TreeItem.stored ss m) c.self.view_is
 
 pub invariant_of-self : goal.invariant_of-self
-invariant_of-self g c = (subst (IsBranch g.T.TreeItem.name g.T.TreeItem.stored g.T.TreeItem.own c.self.inside.item) (sym c.in-Err.ensures.items) c.self.invariant.0, λ sorted. absurd (cc sorted))
+invariant_of-self g c = (subst (IsBranch g.T.TreeItem.name g.T.TreeItem.stored g.T.TreeItem.own c.self.inside.item) (sym c.in-Err.ensures.items) c.self.invariant.0, λ sorted. absurd (false≢true sorted))
 
 pub leaf-requires : goal.leaf-requires
 leaf-requires g c = λ m. c.requires.stored m ∙ sym (c.requires.own m)

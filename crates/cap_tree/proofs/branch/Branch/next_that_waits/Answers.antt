@@ -19,3 +19,6 @@ returns g c =
     let is : c.copied.result ≡ slice_get indexes c.match-child.place = c.copied.ensures ∙ subst (λ is. option_copied c.get.result ≡ slice_get is c.match-child.place) c.deref-2.ensures.value (got c.deref-2.result.now c.match-child.place c.get.result (c.get.ensures.lookup.0, c.get.ensures.lookup.1)) in
     subst (λ o. MatchOption o (HasNoneAfter order those c.args.after) (IsFirstAfter order those c.args.after)) (sym is)
     (next_of_all g.T.TreeItem.name c.self.inside.item kids value c.self.view_is order g.met.T.Served.total g.T.TreeItem.waits indexes (c.self.invariant.1 c.if-not-self.false) c.args.after (option_copied c.child.result) c.child.ensures c.requires c.match-child.place place)
+
+pub place_after-place-requires : goal.place_after-place-requires
+place_after-place-requires g c = rw (c.deref.ensures.value, c.deref-in-Some.ensures.value) (c.self.invariant.1 c.if-not-self.false).sorted

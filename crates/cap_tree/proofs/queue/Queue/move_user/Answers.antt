@@ -1,4 +1,4 @@
-use Rattle.cap_tree.proofs.Prelude.{rules, arith, ap, sym, subst, IsPart, MayMove, queue_count, count_le_all}
+use Rattle.cap_tree.proofs.Prelude.{arith, ap, sym, subst, IsPart, MayMove, queue_count, count_le_all}
 use Rattle.cap_tree.proofs.Rooms.{room_in_child}
 use Rattle.cap_tree.proofs.queue.Queue.move_user.Goals as goal
 
@@ -34,18 +34,3 @@ user-requires g c = search
 
 pub set_user-requires : goal.set_user-requires
 set_user-requires g c = search
-
-pub returns-in-Err-clause-ok : goal.returns-in-Err-clause-ok
-returns-in-Err-clause-ok g c = search rules
-
-pub returns-in-Err-clause-err : goal.returns-in-Err-clause-err
-returns-in-Err-clause-err g c = search rules
-
-pub returns-in-Err-clause-absent : goal.returns-in-Err-clause-absent
-returns-in-Err-clause-absent g c = search rules
-
-pub returns-clause-err : goal.returns-clause-err
-returns-clause-err g c = search rules
-
-pub returns-clause-absent : goal.returns-clause-absent
-returns-clause-absent g c = search rules

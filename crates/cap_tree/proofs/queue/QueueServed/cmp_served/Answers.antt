@@ -1,17 +1,7 @@
 use Rattle.cap_tree.proofs.Sizes.{shares_in_queue}
-use Rattle.cap_tree.proofs.Prelude.{shares_cmp, slice_cmp, Less, Equal, Greater, Ordering, is_ne, nat_cmp, ordering_then, ◌≡◌, ◌∙◌, true, false, ap, sym, refl}
+use Rattle.cap_tree.proofs.Prelude.{shares_cmp, slice_cmp, nat_cmp, ordering_then, ◌∙◌, ap, sym}
+use Rattle.cap_tree.proofs.Orders.{alike, told_apart}
 use Rattle.cap_tree.proofs.queue.QueueServed.cmp_served.Goals as goal
-
--- where two orders follow each other, the first decides if it tells them apart, and the second otherwise
-told_apart : (a b : Ordering) → is_ne a ≡ true → a ≡ ordering_then a b
-told_apart Less b e = refl
-told_apart Equal b e = absurd (cc e)
-told_apart Greater b e = refl
-
-alike : (a b : Ordering) → is_ne a ≡ false → b ≡ ordering_then a b
-alike Less b e = absurd (cc e)
-alike Equal b e = refl
-alike Greater b e = absurd (cc e)
 
 pub returns-then-is_ne : goal.returns-then-is_ne
 returns-then-is_ne g c =

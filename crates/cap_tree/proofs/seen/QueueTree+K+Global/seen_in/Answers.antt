@@ -1,5 +1,5 @@
 use Rattle.cap_tree.proofs.Prelude.{arith, ap, ◌∙◌, map, subst, sym, IsSeenTree}
-use Rattle.cap_tree.proofs.Sizes.{seen_fits}
+use Rattle.cap_tree.proofs.Sizes.{seen_fits, source_fits}
 use Rattle.cap_tree.proofs.Waits.{none_waits, rows_copied}
 use Rattle.cap_tree.proofs.seen.QueueTree+K+Global.seen_in.Goals as goal
 
@@ -22,3 +22,12 @@ returns-in-Ok-copy_in-clause-rows g c = rows_copied c.self.inside.root c.in-Ok-c
 
 pub returns-in-Ok-copy_in-clause-room : goal.returns-in-Ok-copy_in-clause-room
 returns-in-Ok-copy_in-clause-room g c = let room = c.in-Ok.ensures.capacity in omega (arith, room)
+
+pub copy_in-requires-room-T-TreeItem : goal.copy_in-requires-room-T-TreeItem
+copy_in-requires-room-T-TreeItem g c κs within = search source_fits
+
+pub copy_in-requires-room-T-CopyIn : goal.copy_in-requires-room-T-CopyIn
+copy_in-requires-room-T-CopyIn g c κs within = search source_fits
+
+pub copy_in-requires-room-T-Destruct : goal.copy_in-requires-room-T-Destruct
+copy_in-requires-room-T-Destruct g c κs within = search source_fits

@@ -1,4 +1,5 @@
 use Rattle.cap_tree.proofs.Prelude.{◌≡◌, ◌∙◌, ap, sym, tied_itself, bytes_eq-Decides, nat_cmp, ordering_then, slice_cmp, shares, shares_cmp, shares_cmp_total, Queue, SeenQueue}
+use Rattle.cap_tree.proofs.Orders.{alike, told_apart}
 use Rattle.cap_tree.proofs.Sizes.{amounts_in_seen, shares_in_seen}
 use Rattle.cap_tree.proofs.seen.SeenQueueServed.cmp_served.Goals as goal
 
@@ -29,3 +30,17 @@ cmp_name-requires g c = search
 
 pub cmp_name-requires-2 : goal.cmp_name-requires-2
 cmp_name-requires-2 g c = search
+
+pub returns-then-is_ne : goal.returns-then-is_ne
+returns-then-is_ne g c =
+    let s = c.self.invariant.shares_are ∙ ap (λ (r : SeenQueue). shares r.queue.used r.queue.guaranteed) c.self.view_is in
+    let o = c.other.invariant.shares_are ∙ ap (λ (r : SeenQueue). shares r.queue.used r.queue.guaranteed) c.other.view_is in
+    let by_name = slice_cmp nat_cmp c.args.self.now.queue.name c.args.other.now.queue.name in
+    told_apart c.cmp_shares-order.result by_name (sym c.is_ne.ensures ∙ c.if-is_ne.true) ∙ ap (λ r. ordering_then r by_name) (c.cmp_shares-order.ensures ∙ (λ i. shares_cmp (s i) (o i)))
+
+pub returns : goal.returns
+returns g c =
+    let s = c.self.invariant.shares_are ∙ ap (λ (r : SeenQueue). shares r.queue.used r.queue.guaranteed) c.self.view_is in
+    let o = c.other.invariant.shares_are ∙ ap (λ (r : SeenQueue). shares r.queue.used r.queue.guaranteed) c.other.view_is in
+    let by_name = slice_cmp nat_cmp c.args.self.now.queue.name c.args.other.now.queue.name in
+    c.cmp_name-2.ensures ∙ alike c.cmp_shares-order.result by_name (sym c.is_ne.ensures ∙ c.if-is_ne.false) ∙ ap (λ r. ordering_then r by_name) (c.cmp_shares-order.ensures ∙ (λ i. shares_cmp (s i) (o i)))

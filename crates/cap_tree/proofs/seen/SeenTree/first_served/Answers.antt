@@ -37,3 +37,6 @@ first_waiting-requires-clause-some g c = ap (holds_of (λ (q : SeenQueue). q.wai
 
 pub returns : goal.returns
 returns g c = rw (← c.self.view_is) (record { next = first_is c.self.inside.root (map (λ e. e.0.items) c.self.inside.places.items) c.self.inside.links.items c.self.invariant c.first_waiting.result c.first_waiting.ensures })
+
+pub overflow_sub-result : goal.overflow_sub-result
+overflow_sub-result g c = c.first_waiting.ensures.some

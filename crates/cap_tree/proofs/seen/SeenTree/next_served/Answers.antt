@@ -1,4 +1,4 @@
-use Rattle.cap_tree.proofs.Prelude.{arith, ◌∙◌, ◌-◌, Some, sym, subst, map, slice_get_within, rows_seen, IsFirstLater}
+use Rattle.cap_tree.proofs.Prelude.{arith, ◌∙◌, ◌-◌, ◌<◌, one-le_iff_ne-zero, Some, sym, subst, map, slice_get_within, rows_seen, IsFirstLater}
 use Rattle.cap_tree.proofs.NextServed.{has_mark, link_is, link_read, next_is, none_next, once}
 use Rattle.cap_tree.proofs.Sizes.{seen_fits}
 use Rattle.cap_tree.proofs.seen.SeenTree.next_served.Goals as goal
@@ -18,8 +18,7 @@ places_differ-requires g c = once c.self.inside.root (map (λ e. e.0.items) c.se
 pub index-link-requires : goal.index-link-requires
 index-link-requires g c =
     let w = slice_get_within _ c.args.index c.args.position.now (rw (← c.self.view_is) at c.requires) in
-    let m = c.self.invariant.many in
-    omega (arith, w, m)
+    subst (λ n. c.args.index < n) (sym (c.self.inside.links.ok.0 ∙ c.self.invariant.many)) w
 
 pub returns-then-link-ne0 : goal.returns-then-link-ne0
 returns-then-link-ne0 g c =
@@ -57,3 +56,9 @@ returns-in-Some g c =
     let at = rw (← c.self.view_is) at c.requires in
     let is = link_read c.self.inside.root (map (λ e. e.0.items) c.self.inside.places.items) c.self.inside.links.items c.self.invariant c.args.index c.args.position.now at c.index-link.result.now c.index-link.ensures in
     rw (← c.self.view_is) (record { next = next_is c.self.inside.root (map (λ e. e.0.items) c.self.inside.places.items) c.self.inside.links.items c.self.invariant c.args.index c.args.position.now at (sym is ∙ c.if-link-ne0.false) c.in-Some.mark c.in-Some.ensures })
+
+pub overflow_sub-result : goal.overflow_sub-result
+overflow_sub-result g c = one-le_iff_ne-zero.1 c.if-link-ne0.true
+
+pub overflow_sub-result-in-Some : goal.overflow_sub-result-in-Some
+overflow_sub-result-in-Some g c = c.in-Some.ensures.some

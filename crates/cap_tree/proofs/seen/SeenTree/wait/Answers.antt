@@ -1,8 +1,8 @@
-use Rattle.cap_tree.proofs.Prelude.{arith, ◌∙◌, ◌≡◌, ◌+◌, ◌++◌, ◌∷◌, [], ap, sym, subst, map, length, inl, option_map_or, map_push, IsSeenTree, SeenQueue, waiting_at, waiting_below, IsPosition, change_along, mark_at}
+use Rattle.cap_tree.proofs.Prelude.{arith, ◌∙◌, ◌≡◌, ◌+◌, ◌++◌, ◌∷◌, ◌<◌, ◌≤◌, [], ap, sym, subst, map, length, vec_capacity, inl, option_map_or, map_push, IsSeenTree, SeenQueue, waiting_at, waiting_below, IsPosition, change_along, mark_at}
 use Rattle.cap_tree.proofs.Callers.{never_grows}
 use Rattle.cap_tree.proofs.Copies.{position-made}
 use Rattle.cap_tree.proofs.Sizes.{seen_fits}
-use Rattle.cap_tree.proofs.Waits.{last_within, links_after, links_at, one_more, same_rows}
+use Rattle.cap_tree.proofs.Waits.{index_of_mark, last_within, links_after, links_at, mark_fits, one_more, same_rows}
 use Rattle.cap_tree.proofs.seen.SeenTree.wait.Goals.{then-last-ne0, else-last-ne0}
 use Rattle.cap_tree.proofs.seen.SeenTree.wait.Goals as goal
 
@@ -31,13 +31,12 @@ pub index_mut-requires : goal.index_mut-requires
 index_mut-requires g c =
     let last : mark_at (λ (q : SeenQueue). q.last) c.as_slice.result.now c.self.inside.root ≡ c.last-last.result = ap (λ o. option_map_or (λ (q : SeenQueue). q.last) o 0) c.get.ensures ∙ sym c.last-last.ensures in
     let w = last_within c.self.inside.root _ c.self.inside.links.items c.self.invariant c.as_slice.result.now in
-    omega (arith, w, last, c.if-last-ne0.true)
+    rw c.self.inside.links.ok.0 (index_of_mark c.last-last.result (length c.self.inside.links.items) c.if-last-ne0.true (subst (λ n. n ≤ length c.self.inside.links.items) last w))
 
 pub push_reserved-requires : goal.push_reserved-requires
 push_reserved-requires g c =
-    let many = c.self.invariant.many in
-    let less = rw (← c.self.view_is) at c.requires.room in
-    elim c.if-last-ne0.branch [ then-last-ne0 w ↦ rw w.self-inside-is (omega (arith, many, less)) | else-last-ne0 w ↦ rw w.self-inside-is (omega (arith, many, less)) ]
+    let less = subst (λ n. n < vec_capacity c.self.inside.links) (sym (c.self.inside.links.ok.0 ∙ c.self.invariant.many)) (rw (← c.self.view_is) at c.requires.room) in
+    elim c.if-last-ne0.branch [ then-last-ne0 w ↦ rw w.self-inside-is less | else-last-ne0 w ↦ rw w.self-inside-is less ]
 
 pub change-requires-clause-can : goal.change-requires-clause-can
 change-requires-clause-can g c =
@@ -88,7 +87,7 @@ returns-clause-room g c =
 pub invariant_of-self : goal.invariant_of-self
 invariant_of-self g c =
     let waiting = map (λ e. e.0.items) c.self.inside.places.items in
-    let mark : c.len.result + 1 ≡ length waiting + 1 = (let m = c.self.invariant.many in let l = c.len.ensures in omega (arith, m, l)) in
+    let mark : c.len.result + 1 ≡ length waiting + 1 = ap (λ n. n + 1) (c.len.ensures ∙ c.self.inside.links.ok.0 ∙ c.self.invariant.many) in
     subst (λ ps. IsSeenTree c.change.new.self ps c.push_reserved.new.self.items) (sym (waiting_is g c))
     (one_more c.self.inside.root waiting c.self.inside.links.items c.self.invariant c.args.path.now.items (there g c) (c.len.result + 1) mark c.change.new.self c.push_reserved.new.self.items (changed_is g c) (links_are g c))
 
@@ -101,10 +100,13 @@ overflow_cast-mark g c =
     omega (arith, many, few, l, items)
 
 pub overflow_add-mark : goal.overflow_add-mark
-overflow_add-mark g c = let many = c.self.invariant.many in let few = rw (← c.self.view_is) at c.requires.few in let l = c.len.ensures in omega (arith, many, few, l)
+overflow_add-mark g c = mark_fits _ _ (c.len.ensures ∙ c.self.inside.links.ok.0 ∙ c.self.invariant.many) (rw (← c.self.view_is) at c.requires.few)
 
 pub overflow_sub-last : goal.overflow_sub-last
 overflow_sub-last g c = omega (arith, c.if-last-ne0.true)
 
 pub overflow_cast-last : goal.overflow_cast-last
 overflow_cast-last g c = let last = c.last-last.type_inv in omega (arith, last)
+
+pub unreachable-unreachable : goal.unreachable-unreachable
+unreachable-unreachable g c = c.unreachable.result

@@ -1,10 +1,10 @@
-use Rattle.std.proofs.Common.{rules, arith, false, true}
+use Rattle.std.proofs.Common.{arith, false, true}
 use Rattle.cap_tree.proofs.Within.{over_maximum, over_user}
-use Rattle.cap_tree.proofs.Sizes.{queue_fits}
+use Rattle.cap_tree.proofs.Sizes.{path_fits, queue_fits}
 use Rattle.cap_tree.proofs.tree.QueueTree.accept.Goals as goal
 
 pub as_slice-requires : goal.as_slice-requires
-as_slice-requires g c = search rules
+as_slice-requires g c = search path_fits
 
 pub first_failing-requires : goal.first_failing-requires
 first_failing-requires g c = rw (← c.self.view_is, ← c.as_slice.ensures) at c.requires
@@ -26,17 +26,8 @@ returns-clause-ok g c =
     (over_user g.row.K c.as_slice.result.now c.args.user.now c.args.old.now c.args.new.now c.self.inside.root c.self.invariant.rows_are.paths (rw (← c.self.view_is, ← c.as_slice.ensures) at c.requires)
     true c.in_default.ensures.level (rw (← c.self.view_is, ← c.as_slice.ensures) at c.if-not-stays_in_user_limit.ensures))
 
-pub returns-in-Some-clause-ok : goal.returns-in-Some-clause-ok
-returns-in-Some-clause-ok g c = search rules
-
 pub stays_in_user_limit-requires : goal.stays_in_user_limit-requires
 stays_in_user_limit-requires g c = ((search), ((search), ((search), c.requires)))
-
-pub returns-then-not-stays_in_user_limit-clause-ok : goal.returns-then-not-stays_in_user_limit-clause-ok
-returns-then-not-stays_in_user_limit-clause-ok g c = search rules
-
-pub returns-clause-err : goal.returns-clause-err
-returns-clause-err g c = search rules
 
 pub first_failing-requires-room-T-TreeItem : goal.first_failing-requires-room-T-TreeItem
 first_failing-requires-room-T-TreeItem g c κs within = search queue_fits

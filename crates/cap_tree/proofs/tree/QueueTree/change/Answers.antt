@@ -2,7 +2,7 @@ use Rattle.cap_tree.proofs.Prelude.{rules, ◌≡◌, ◌∙◌, sym, refl, subs
 use Rattle.cap_tree.proofs.Callers.{row_holds, holds_of_row}
 use Rattle.cap_tree.proofs.Listings.{rows_kept}
 use Rattle.cap_tree.proofs.RowPaths.{changed_rows}
-use Rattle.cap_tree.proofs.Sizes.{queue_fits}
+use Rattle.cap_tree.proofs.Sizes.{path_fits, queue_fits}
 use Rattle.cap_tree.proofs.tree.QueueTree.change.Goals as goal
 
 pub change-requires-clause-can : goal.change-requires-clause-can
@@ -34,22 +34,13 @@ returns-in-Err-clause-absent g c =
     rw (← c.self.view_is, ← c.as_slice.ensures) (holds_of_row c.args.change.now.user.now c.as_slice.result.now c.self.inside.root (λ row. row ≡ None) c.in-Err.ensures.grows)
 
 pub as_slice-requires : goal.as_slice-requires
-as_slice-requires g c = search rules
+as_slice-requires g c = search path_fits
 
 pub invariant_of-self : goal.invariant_of-self
 invariant_of-self g c = record { rows_are = subst AreRows (sym c.in-Err.ensures.unchanged) c.self.invariant.rows_are; start_is = c.self.invariant.start_is }
 
-pub returns-in-Err-clause-ok : goal.returns-in-Err-clause-ok
-returns-in-Err-clause-ok g c = search rules
-
 pub returns-in-Err-clause-err : goal.returns-in-Err-clause-err
 returns-in-Err-clause-err g c = rw (← c.self.view_is) c.in-Err.ensures.unchanged
-
-pub returns-clause-err : goal.returns-clause-err
-returns-clause-err g c = search rules
-
-pub returns-clause-absent : goal.returns-clause-absent
-returns-clause-absent g c = search rules
 
 pub change-requires-room-T-TreeItem : goal.change-requires-room-T-TreeItem
 change-requires-room-T-TreeItem g c κs within = search queue_fits

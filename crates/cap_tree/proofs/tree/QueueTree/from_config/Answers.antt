@@ -1,5 +1,5 @@
 use Rattle.cap_tree.proofs.Sizes.{row_fits}
-use Rattle.cap_tree.proofs.Prelude.{rules, arith, ◌∙◌, ◌≡◌, ◌∷◌, ◌++◌, ◌-◌, ap, refl, sym, subst, take, drop, length, IsListing, IsGrowing, queues_of}
+use Rattle.cap_tree.proofs.Prelude.{arith, ◌∙◌, ◌≡◌, ◌∷◌, ◌++◌, ◌-◌, ap, refl, sym, subst, take, drop, length, IsListing, IsGrowing, queues_of}
 use Rattle.cap_tree.proofs.Growing.{start, finished, none_listed, split_list, unused_stored, unused_own}
 use Rattle.cap_tree.proofs.tree.QueueTree.from_config.Goals as goal
 
@@ -49,18 +49,6 @@ returns-clause-queues g c =
     let l = subst IsListing (sym c.queues.ensures.rows) c.queues.ensures.listing in
     let s = start g.row.K qs others c.first-item.result c.in-Ok.queue e l c.in-Ok.ensures.0 c.in-Ok.ensures.1 in
     c.in-Ok-add_all.ensures.queues ∙ ap (λ r. queues_of r ++ others) c.leaf-root.ensures ∙ ap (λ x. x ++ others) s.queues ∙ sym e ∙ c.queues.ensures.rows
-
-pub returns-in-Err-clause-queues : goal.returns-in-Err-clause-queues
-returns-in-Err-clause-queues g c = search rules
-
-pub returns-in-Err-clause-unused : goal.returns-in-Err-clause-unused
-returns-in-Err-clause-unused g c = search rules
-
-pub returns-in-Err-add_all-clause-queues : goal.returns-in-Err-add_all-clause-queues
-returns-in-Err-add_all-clause-queues g c = search rules
-
-pub returns-in-Err-add_all-clause-unused : goal.returns-in-Err-add_all-clause-unused
-returns-in-Err-add_all-clause-unused g c = search rules
 
 pub leaf-root-requires-room-T-TreeItem : goal.leaf-root-requires-room-T-TreeItem
 leaf-root-requires-room-T-TreeItem g c κs within = search

@@ -1,9 +1,8 @@
-use Rattle.std.proofs.Common.{rules}
-use Rattle.cap_tree.proofs.Sizes.{queue_fits}
+use Rattle.cap_tree.proofs.Sizes.{path_fits, queue_fits}
 use Rattle.cap_tree.proofs.tree.QueueTree.row.Goals as goal
 
 pub as_slice-requires : goal.as_slice-requires
-as_slice-requires g c = search rules
+as_slice-requires g c = search path_fits
 
 pub get-requires : goal.get-requires
 get-requires g c = rw (← c.self.view_is, ← c.as_slice.ensures) at c.requires

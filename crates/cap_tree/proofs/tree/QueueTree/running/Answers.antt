@@ -1,6 +1,6 @@
-use Rattle.cap_tree.proofs.Prelude.{rules, ◌≡◌, ◌∙◌, Bool, true, false, ap, sym, is_some, not}
+use Rattle.cap_tree.proofs.Prelude.{◌≡◌, ◌∙◌, Bool, true, false, ap, sym, is_some, not}
 use Rattle.cap_tree.proofs.RowPaths.{running_rows}
-use Rattle.cap_tree.proofs.Sizes.{queue_fits}
+use Rattle.cap_tree.proofs.Sizes.{path_fits, queue_fits}
 use Rattle.cap_tree.proofs.tree.QueueTree.running.Goals as goal
 
 turned : (b c : Bool) → b ≡ not c → c ≡ not b
@@ -14,7 +14,7 @@ returns g c =
     ∙ running_rows c.as_slice.result.now c.self.inside.root c.self.invariant.rows_are.paths (rw (← c.self.view_is, ← c.as_slice.ensures) at c.requires))
 
 pub as_slice-requires : goal.as_slice-requires
-as_slice-requires g c = search rules
+as_slice-requires g c = search path_fits
 
 pub first_failing-requires : goal.first_failing-requires
 first_failing-requires g c = rw (← c.self.view_is, ← c.as_slice.ensures) at c.requires

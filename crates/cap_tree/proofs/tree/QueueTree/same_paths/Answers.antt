@@ -1,5 +1,6 @@
-use Rattle.cap_tree.proofs.Prelude.{◌≡◌, ◌∙◌, length, ap, arith, refl, rules, sym, subst, false, true, list_all, length-map, take_all, IsListing, has_path, has_same_paths, queues_of, settings_of_row}
+use Rattle.cap_tree.proofs.Prelude.{◌≡◌, ◌∙◌, length, ap, arith, refl, sym, subst, false, true, list_all, length-map, take_all, IsListing, has_path, has_same_paths, queues_of, settings_of_row}
 use Rattle.cap_tree.proofs.Counting.{count_is, is_count}
+use Rattle.cap_tree.proofs.Sizes.{row_in_tree}
 use Rattle.cap_tree.proofs.SamePaths.{found_path, one_missing, one_more, same_count}
 use Rattle.cap_tree.proofs.tree.QueueTree.same_paths.Goals as goal
 
@@ -30,10 +31,10 @@ returns g c =
     (count_is c.has_count.result (length c.args.self.now) (length ps) (length qs) is count) (is_count c.has_count.result (length c.args.self.now) (length ps) (length qs) is count))
 
 pub path-path-requires : goal.path-path-requires
-path-path-requires g c = search rules
+path-path-requires g c = search row_in_tree
 
 pub queues-queues-requires : goal.queues-queues-requires
-queues-queues-requires g c = search rules
+queues-queues-requires g c = ((search), search row_in_tree)
 
 pub find-requires : goal.find-requires
 find-requires g c = search

@@ -2,7 +2,7 @@ use Rattle.cap_tree.proofs.Prelude.{◌≡◌, rules, arith, ◌∙◌, sym, sub
 use Rattle.cap_tree.proofs.Callers.{never_grows}
 use Rattle.cap_tree.proofs.Listings.{row_rows, row_kept}
 use Rattle.cap_tree.proofs.RowPaths.{changed_rows}
-use Rattle.cap_tree.proofs.Sizes.{queue_fits}
+use Rattle.cap_tree.proofs.Sizes.{path_fits, queue_fits}
 use Rattle.cap_tree.proofs.tree.QueueTree.set_row.Goals as goal
 
 pub invariant_of-self : goal.invariant_of-self
@@ -30,7 +30,7 @@ pub unreachable-requires : goal.unreachable-requires
 unreachable-requires g c = never_grows c.as_slice.result.now c.self.inside.root c.in_default.ensures.grows
 
 pub as_slice-requires : goal.as_slice-requires
-as_slice-requires g c = search rules
+as_slice-requires g c = search path_fits
 
 pub change-requires-clause-can : goal.change-requires-clause-can
 change-requires-clause-can g c = rw (← c.self.view_is, ← c.as_slice.ensures) at c.requires.position

@@ -1,8 +1,8 @@
-use Rattle.cap_tree.proofs.Prelude.{rules, arith, ◌∙◌, sym, subst, inl, with_running, AreRows, path_at, IsPosition}
+use Rattle.cap_tree.proofs.Prelude.{arith, ◌∙◌, sym, subst, inl, with_running, AreRows, path_at, IsPosition}
 use Rattle.cap_tree.proofs.Callers.{never_grows}
 use Rattle.cap_tree.proofs.Listings.{state_rows, state_kept}
 use Rattle.cap_tree.proofs.RowPaths.{changed_rows}
-use Rattle.cap_tree.proofs.Sizes.{queue_fits}
+use Rattle.cap_tree.proofs.Sizes.{path_fits, queue_fits}
 use Rattle.cap_tree.proofs.tree.QueueTree.set_state.Goals as goal
 
 pub invariant_of-self : goal.invariant_of-self
@@ -26,7 +26,7 @@ pub unreachable-requires : goal.unreachable-requires
 unreachable-requires g c = never_grows c.as_slice.result.now c.self.inside.root c.in_default.ensures.grows
 
 pub as_slice-requires : goal.as_slice-requires
-as_slice-requires g c = search rules
+as_slice-requires g c = search path_fits
 
 pub change-requires-clause-can : goal.change-requires-clause-can
 change-requires-clause-can g c = rw (← c.self.view_is, ← c.as_slice.ensures) at c.requires

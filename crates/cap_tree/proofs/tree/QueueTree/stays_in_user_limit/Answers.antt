@@ -1,9 +1,9 @@
-use Rattle.cap_tree.proofs.Prelude.{rules, ◌≡◌, ◌∙◌, Some, ap, sym, holds_of, stays_in_user_limit, item_at}
-use Rattle.cap_tree.proofs.Sizes.{queue_fits}
+use Rattle.cap_tree.proofs.Prelude.{◌≡◌, ◌∙◌, Some, ap, sym, holds_of, stays_in_user_limit, item_at}
+use Rattle.cap_tree.proofs.Sizes.{path_fits, queue_fits}
 use Rattle.cap_tree.proofs.tree.QueueTree.stays_in_user_limit.Goals as goal
 
 pub as_slice-requires : goal.as_slice-requires
-as_slice-requires g c = search rules
+as_slice-requires g c = search path_fits
 
 pub get-leaf-requires : goal.get-leaf-requires
 get-leaf-requires g c = rw (← c.self.view_is, ← c.as_slice.ensures) at c.requires

@@ -1,9 +1,9 @@
-use Rattle.cap_tree.proofs.Prelude.{rules, ◌≡◌, ◌∙◌, Some, None, ap, sym, option_map_or, Queue, use_of, user_row, item_at}
-use Rattle.cap_tree.proofs.Sizes.{queue_fits}
+use Rattle.cap_tree.proofs.Prelude.{◌≡◌, ◌∙◌, Some, None, ap, sym, option_map_or, Queue, use_of, user_row, item_at}
+use Rattle.cap_tree.proofs.Sizes.{path_fits, queue_fits}
 use Rattle.cap_tree.proofs.tree.QueueTree.user_use.Goals as goal
 
 pub as_slice-requires : goal.as_slice-requires
-as_slice-requires g c = search rules
+as_slice-requires g c = search path_fits
 
 pub get-requires : goal.get-requires
 get-requires g c = rw (← c.self.view_is, ← c.as_slice.ensures) at c.requires
