@@ -64,9 +64,6 @@ returns-in-Some-clause-kept g t c = λ m. ap (λ ss. root_count g.T.TreeItem.sto
 pub returns-in-None-clause-kept : goal.returns-in-None-clause-kept
 returns-in-None-clause-kept g t c = λ m. c.add_child-in-None.ensures.kept m ∙ ap (λ ss. root_count g.T.TreeItem.stored ss m) c.self.view_is
 
-pub invariant_of-self-in-None : goal.invariant_of-self-in-None
-invariant_of-self-in-None g t c = c.self.invariant
-
 pub add_child-requires-in-None-clause-few : goal.add_child-requires-in-None-clause-few
 add_child-requires-in-None-clause-few g t c = subst (λ ss. length ss ≤ 4294967295) (sym c.self.view_is) c.requires.few
 

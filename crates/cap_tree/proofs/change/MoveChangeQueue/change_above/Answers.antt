@@ -3,6 +3,3 @@ use Rattle.cap_tree.proofs.change.MoveChangeQueue.change_above.Goals as goal
 
 pub move_below-requires : goal.move_below-requires
 move_below-requires g c = ((search), (search count_in_queue, (c.requires.fits, c.requires.within)))
-
-pub returns : goal.returns
-returns g c = c.move_below.ensures

@@ -5,9 +5,6 @@ use Rattle.cap_tree.proofs.queue.QueueCopyIn.copy_in.Goals as goal
 pub copy_users-requires : goal.copy_users-requires
 copy_users-requires g c = search count_in_queue
 
-pub invariant_of-result : goal.invariant_of-result
-invariant_of-result g c = c.self.invariant
-
 pub returns : goal.returns
 returns g c =
     let name = sym (c.in-Ok.ensures.items ∙ c.deref.ensures.value) in

@@ -1,11 +1,8 @@
-use Rattle.cap_tree.proofs.Prelude.{◌≡◌, ◌∙◌, length, ap, arith, refl, sym, subst, false, true, list_all, length-map, take_all, IsListing, has_path, has_same_paths, queues_of, settings_of_row}
+use Rattle.cap_tree.proofs.Prelude.{◌≡◌, ◌∙◌, length, ap, arith, sym, subst, false, true, list_all, length-map, take_all, IsListing, has_path, has_same_paths, queues_of, settings_of_row}
 use Rattle.cap_tree.proofs.Counting.{count_is, is_count}
 use Rattle.cap_tree.proofs.Sizes.{row_in_tree}
 use Rattle.cap_tree.proofs.SamePaths.{found_path, one_missing, one_more, same_count}
 use Rattle.cap_tree.proofs.tree.QueueTree.same_paths.Goals as goal
-
-pub loop-queue-init : goal.loop-queue-init
-loop-queue-init g c = refl
 
 pub returns-in-Missing : goal.returns-in-Missing
 returns-in-Missing g c =
