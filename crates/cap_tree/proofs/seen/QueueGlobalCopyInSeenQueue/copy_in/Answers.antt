@@ -14,9 +14,6 @@ guaranteed-requires g c = ((search), search amounts_in_source)
 pub maximum-requires : goal.maximum-requires
 maximum-requires g c = ((search), search amounts_in_source)
 
-pub used-requires : goal.used-requires
-used-requires g c = ((search), search amounts_in_source)
-
 pub shares-requires : goal.shares-requires
 shares-requires g c = ((search), search shares_in_source)
 
