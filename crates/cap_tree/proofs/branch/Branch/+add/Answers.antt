@@ -1,4 +1,5 @@
-use Rattle.cap_tree.proofs.Prelude.{arith, ◌≡◌, ◌≤◌, ◌-◌, length, refl, ◌∙◌, ap, set, sym, subst, [], vec_len, on_ok_weaker, on_err_weaker, length-set, set-get_or, nil_from_length, All-set, first_of, spots, IsAdded, AreSpots, root_count, false≢true}
+use Rattle.cap_tree.proofs.Prelude.{rules, arith, ◌≡◌, ◌<◌, ◌≤◌, ◌-◌, length, refl, ◌∙◌, ap, set, sym, subst, [], vec_len, on_ok_weaker, on_err_weaker, length-set, set-get_or, nil_from_length, All-set, first_of, spots, IsAdded, AreSpots, root_count, false≢true}
+use Rattle.cap_tree.proofs.Finds.{child-lt}
 use Rattle.cap_tree.proofs.Spots.{sum-set_child}
 use Rattle.cap_tree.proofs.Adding.{added_below, added_at_leaf, none_below}
 use Rattle.cap_tree.proofs.Trees.{tree_of, trees_filled}
@@ -76,3 +77,10 @@ returns-in-None-clause-ok g t c =
     (λ a. added_at_leaf c.args.levels (g.T.TreeItem.name c.args.item) g.T.TreeItem.name c.self.inside.item c.args.item kids c.args.self.now c.add_child-in-None.new.self c.self.view_is none
     (subst (λ v. IsAdded 0 (g.T.TreeItem.name c.args.item) c.args.item v c.add_child-in-None.new.self) c.self.view_is a))
     c.add_child-in-None.ensures.ok
+
+pub add-requires : goal.add-requires
+add-requires g t c =
+    let some = c.in-Some.ensures.variant.0 refl in
+    let within = subst (λ n. vec_len c.self.inside.children - 1 < n) c.self.inside.children.ok.0 (omega (arith, some)) in
+    let w = child-lt g.T.TreeItem.name c.self.inside.item c.self.inside.children.items c.args.self.now (vec_len c.self.inside.children - 1) c.in-Some.last.now c.self.view_is within c.in-Some.ensures.value in
+    λ κs l. (search (rules, w), (search rules, (search rules, (c.requires.stored, (c.requires.own, omega (arith, w, c.requires.few))))))
