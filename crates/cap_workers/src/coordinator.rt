@@ -114,7 +114,7 @@ impl Coordinator {
     }
 
     /// Whether at most one worker takes turns.
-    pub(crate) fn is_lonely(&self) -> bool {
+    pub(crate) fn is_single(&self) -> bool {
         self.busy.load(Ordering::SeqCst) < 2
     }
 

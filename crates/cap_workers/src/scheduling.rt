@@ -157,7 +157,7 @@ impl<'a> Room<'a> {
         gate: &G,
         worker: &mut Worker,
     ) -> Begun<'a> {
-        if self.coordinator.is_lonely() {
+        if self.coordinator.is_single() {
             return worker.begin(rt, shared, seat, &mut self.arena, gate);
         }
         worker.begin_beside(rt, shared, seat, gate, self.coordinator)
@@ -218,7 +218,7 @@ impl<'a> Direct<'a> {
         worker: &mut Worker,
         proposal: Proposal<RESOURCES>,
     ) -> (TurnEnd, Option<Begun<'a>>) {
-        if !self.room.coordinator.is_lonely() {
+        if !self.room.coordinator.is_single() {
             return (worker.commit(rt, shared, seat, gate, proposal), None);
         }
         let arena = &mut self.room.arena;
@@ -290,7 +290,7 @@ impl<'a> ByLane<'a> {
             return (self.side.await_answer(rt), None);
         };
         let outcomes = committed.outcomes;
-        if !coordinator.is_lonely() {
+        if !coordinator.is_single() {
             drop(held);
             coordinator.notify(rt, gate, &outcomes);
             return (self.side.await_answer(rt), None);
