@@ -73,7 +73,8 @@ pace=$seconds
 [ "${1:-}" != --pace ] || exit 0
 [ "${1:-}" != --each ] || { watch_each >"$work/table" & watcher=$!; }
 SECONDS=0
-spend rt ci --anew
+# (a kit whose `rt ci` keeps what earlier runs have proved has a word against that)
+spend rt ci $(rt help 2>&1 | grep -o -m 1 -e --anew || true)
 gate=$seconds
 spend misuse/bodies.py
 seconds=$((gate + seconds))
