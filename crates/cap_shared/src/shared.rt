@@ -143,7 +143,7 @@ impl<'a, J: Naming> Hold<'a, J> {
     }
 
     /// A snapshot of the cluster as it is: the last that was shown, or one that is made and arranged while the cluster is held, and that
-    /// `shown` gives until something is entered. If an allocation fails no seat is answered anything.
+    /// `shown` gives until something is entered. If an allocation fails the seat was answered nothing, and none is shown any more.
     pub fn show(&mut self, seat: &mut Seat<J>) -> Result<Arc<Shown, Global>, NoMemory>
         ensures { MatchResult result (λ shown.
             CopyIs J.opening seat.old seat.new (sight_in resources (arc_value shown)))
