@@ -1,11 +1,11 @@
 -- What a snapshot is made of, and what it is taken from, are no larger than memory.
-use Rattle.cap_copy.proofs.Prelude.{ℕ, ◌<◌, ◌≤◌, ◌^◌, [], ◌∷◌, arith, FitsInMemory, RattleType, Ghosts, resources_max, part, part_fits, container_fits}
-use prog.Memory.{size}
+use Rattle.cap_copy.proofs.Prelude.{ℕ, ◌≤◌, [], ◌∷◌, arith, FitsInMemory, RattleType, Ghosts, resources_max, part_fits, container_fits}
 use denote.Param.{layout, number, param}
 use Rattle.cap_model.specs.contracts.ask.Ask as ask
 use Rattle.cap_model.specs.contracts.container.Reservation as reservation
 use Rattle.cap_vector.specs.contracts.vector.Amounts as amounts
-use Rattle.cap_tree.specs.contracts.seen.SeenTree as seen_tree
+use Rattle.smallvec.specs.contracts.small_vec.SmallVec as path
+use Rattle.cap_vector.specs.contracts.fullness.Shares as shares
 use Rattle.cap_nodes.specs.contracts.nodes.Nodes as nodes
 use Rattle.cap_nodes.proofs.Sizes.{nodes_of_few as fits_of_few}
 use Rattle.cap_copy.specs.contracts.snapshot.Snapshot as snapshot
@@ -13,6 +13,8 @@ use Rattle.cap_copy.specs.contracts.copied.ClusterCopy as copied
 use Rattle.cap_copy.specs.contracts.seen_app.SeenApp as seen_app
 use Rattle.cap_copy.specs.contracts.seen.SeenAsk as seen_ask
 use Rattle.cap_copy.specs.contracts.seen.SeenNode as seen_node
+use Rattle.cap_copy.specs.contracts.seen_queue.SeenQueue as seen_queue
+use Rattle.cap_copy.specs.contracts.seen_tree.SeenTree as seen_tree
 
 pub reservation_by_nodes : (n : ℕ) → FitsInMemory (nodes.the_row (param 0 (number n))) → FitsInMemory (reservation.the_row (param 0 (number n)))
 reservation_by_nodes n fits = let whole = container_fits n fits in omega (arith, whole)
@@ -40,3 +42,15 @@ amounts_in_snapshot K MAX A alloc = part_fits (layout (snapshot.the_row K A allo
 
 pub tree_in_copy : (K A : RattleType) (alloc : Ghosts A.Denot) → FitsInMemory (copied.the_row K A alloc) → FitsInMemory (seen_tree.the_row K A alloc)
 tree_in_copy K A alloc = part_fits (layout (copied.the_row K A alloc)) (0 ∷ [])
+
+pub seen_fits : (K A : RattleType) (alloc : Ghosts A.Denot) → FitsInMemory (seen_tree.the_row K A alloc) → FitsInMemory (seen_queue.the_row K A alloc)
+seen_fits K A alloc = part_fits (layout (seen_tree.the_row K A alloc)) (0 ∷ 0 ∷ [])
+
+pub name_in_seen : (K A : RattleType) (alloc : Ghosts A.Denot) → FitsInMemory (seen_queue.the_row K A alloc) → FitsInMemory (path.the_row denote.Builtin.u8 (number 24) A alloc)
+name_in_seen K A alloc = part_fits (layout (seen_queue.the_row K A alloc)) (0 ∷ [])
+
+pub amounts_in_seen : (K MAX A : RattleType) (alloc : Ghosts A.Denot) → FitsInMemory (seen_queue.the_row K A alloc) → FitsInMemory (amounts.the_row K MAX)
+amounts_in_seen K MAX A alloc = part_fits (layout (seen_queue.the_row K A alloc)) (1 ∷ [])
+
+pub shares_in_seen : (K A : RattleType) (alloc : Ghosts A.Denot) → FitsInMemory (seen_queue.the_row K A alloc) → FitsInMemory (shares.the_row K)
+shares_in_seen K A alloc = part_fits (layout (seen_queue.the_row K A alloc)) (5 ∷ [])

@@ -1,11 +1,15 @@
 pub mod Blocks
+pub mod Copies
+pub mod Fitting
 pub mod Found
-mod Prelude
-pub mod ServedAsks
+pub mod Limited
+pub mod LoopSteps
+pub mod NextServed
 pub mod Order
+mod Prelude
 pub mod Ranging
 pub mod Reserving
 pub mod Seeing
+pub mod ServedAsks
 pub mod Sights
-pub mod LoopSteps
-pub mod Fitting
+pub mod Waits

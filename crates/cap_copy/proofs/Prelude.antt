@@ -1,32 +1,8 @@
 -- What the proofs here take from elsewhere.
-pub use Rattle.std.proofs.Common.{Bool, List, [], ap, arith, cond, drop, false, inl, inr, length, length-append, map, refl, rules, subst, suc, sym, take, true, vec_capacity, vec_len, zero, ℕ, ◌&&◌, ◌++◌, ◌+◌, ◌-◌, ◌/◌, ◌<◌, ◌^◌, ◌∙◌, ◌∷◌, ◌≡◌, ◌≢◌, ◌≤◌, ◌⊎◌}
-pub use Rattle.std.proofs.Math.ListN.{set}
-pub use Rattle.std.proofs.Math.Seq.{drop-append_seam}
-pub use Rattle.std.proofs.lemmas.Bool.{and_parts, cases_Bool, cases_lt, eq-eqb, eqb-true, ne_eqb}
-pub use Rattle.std.proofs.lemmas.Bool.Decides.{nat_tests}
-pub use Rattle.std.proofs.lemmas.Cmp.{lists_total, nat_cmp_total, on_total, ranked, then_total, tied_itself}
-pub use Rattle.std.proofs.lemmas.Grind.{flat_map-append, get_or_default_zero}
-pub use Rattle.std.proofs.lemmas.List.{append-nil, append_assoc, drop-append-le, drop-map, length-drop, length-map, length-take-le, map-append, map-id, map_push, nil_from_length, take-append-le, take_all, take_more}
-pub use Rattle.std.proofs.lemmas.List.Concat.{flat_map-cons}
-pub use Rattle.std.proofs.lemmas.List.Elements.{All-push, filter-append}
-pub use Rattle.std.proofs.lemmas.List.Sums.{count_by_more_no, count_by_more_yes}
-pub use Rattle.std.proofs.lemmas.Option.{get_or_from_slice_get, same_Some, slice_get-map, slice_get_read, slice_get_within}
-pub use Rattle.std.proofs.lemmas.Slice.Eq.{bytes_eq-Decides}
-pub use Rattle.std.specs.Borrow.{RattleType}
-pub use Rattle.std.specs.Cmp.{IsTotalOrder, nat_cmp_is}
-pub use Rattle.std.specs.Cmp.Lexicographic.{slice_cmp}
-pub use Rattle.std.specs.List.{All, list_all, list_any, slice_get, take-map}
-pub use Rattle.std.specs.Mem.{FitsInMemory}
-pub use Rattle.std.specs.Option.{option_map_or}
-pub use Rattle.std.specs.Ordering.{MatchOrdering, is_gt, is_lt, nat_cmp, ordering_reverse, ordering_then}
-pub use Rattle.std.specs.Prelude.{None, Option, Some, bytes_eq, filter, find, flat_map, nat_lt, not, option_map, slice_index, unwrap_or, ◌==◌}
-pub use Rattle.std.specs.declared.alloc.Allocator.{Ghosts}
-pub use Rattle.std.specs.declared.cmp.Ordering.{Ordering}
-pub use Rattle.std.specs.declared.cmp.Ordering.TheVariants.{Equal, Greater, Less}
 pub use Rattle.cap_asks.proofs.Keeping.{before_not_same}
 pub use Rattle.cap_asks.specs.Accounts.{Account, AreAfter, AreKept, HeldApp, is_before}
 pub use Rattle.cap_asks.specs.Apps.{account_of, is_waiting, position_of, waiting_of}
-pub use Rattle.cap_base.proofs.Levels.{level_cmp_total}
+pub use Rattle.cap_base.proofs.Levels.{level_cmp_total, shares_cmp_total}
 pub use Rattle.cap_base.proofs.lists.Filters.{filter_mapped, filter_none, find_mapped_at, length-kept, map_same, map_twice}
 pub use Rattle.cap_base.proofs.lists.Members.{IsIn, each_of, in_either, in_filter, in_flat_map, in_map, in_right, of_each, of_filter, of_map}
 pub use Rattle.cap_base.proofs.lists.Tests.{bytes_itself, or_left, or_right, same_test}
@@ -41,9 +17,11 @@ pub use Rattle.cap_base.specs.Trees.{HasDistinctPaths}
 pub use Rattle.cap_copy.specs.AskEntry.{AskEntry}
 pub use Rattle.cap_copy.specs.AskRanges.{AreApart, AreInside, AreRanges, IsRangeOf, LiesIn}
 pub use Rattle.cap_copy.specs.Entries.{ask_entries, ask_entry, asks_at, asks_of, asks_of_all, beside, beside_one, indexes, registered_of, reserved_on}
-pub use Rattle.cap_copy.specs.Limits.{limit_in, limit_of, no_limit, queue_use}
+pub use Rattle.cap_copy.specs.Limits.{stays_in_limits, limit_in, limit_of, no_limit, queue_use}
 pub use Rattle.cap_copy.specs.Order.{in_order, placed_in, service_order}
 pub use Rattle.cap_copy.specs.SeenApp.{AreSeen, HaveAsks, SeenApp, range_in, user_used}
+pub use Rattle.cap_copy.specs.SeenTree.{SeenRows, IsFirstFrom, IsSeenTree, SeenQueue, rows_seen, seen_cmp, IsLast, not_waiting, waiting_at, waiting_below}
+pub use Rattle.cap_copy.specs.ServiceOrder.{AreInOrder, IsNextServed, position_nth, waiting_cmp, IsFirstLater, IsLater}
 pub use Rattle.cap_copy.specs.Snapshot.{AreServedInOrder, AreSkips, IsAskEntry, IsLimitOf, IsNextAfter, IsSkip, IsSnapshot, IsUpTo, QueueUse, Seen, asks_between, asks_for, asks_nth, asks_served, queue_seen, served_cmp, sight_in, stays_within}
 pub use Rattle.cap_copy.specs.Sources.{IsCopied, IsCopy, IsStored, Parts, held_apps_in, nodes_in, seen_of}
 pub use Rattle.cap_copy.specs.Taking.{IsSnapshotOf, node_seen}
@@ -60,12 +38,37 @@ pub use Rattle.cap_model.specs.declared.ask.Key.{Key}
 pub use Rattle.cap_nodes.proofs.Sizes.{amounts_fit, container_fits, load_fits, node_fits, present_fits}
 pub use Rattle.cap_nodes.specs.Tables.{free_on, left_of}
 pub use Rattle.cap_tree.proofs.RowPaths.{at_position}
-pub use Rattle.cap_tree.proofs.Sizes.{part, part_fits}
-pub use Rattle.cap_tree.specs.Limits.{stays_in_limits}
+pub use Rattle.cap_tree.proofs.Sizes.{part_fits}
 pub use Rattle.cap_tree.specs.Queue.{Queue, stays_in_maximum, use_of, user_row}
-pub use Rattle.cap_tree.specs.Rows.{AreRows, IsAt, Row, items_to, queues_of, rows_to}
-pub use Rattle.cap_tree.specs.Seen.{SeenRows}
-pub use Rattle.cap_tree.specs.Service.{levels_at}
-pub use Rattle.cap_tree.specs.ServiceOrder.{AreInOrder, IsNextServed, position_nth, waiting_cmp}
-pub use Rattle.cap_tree.specs.Spot.{HoldsOfItem, IsPosition, item_at, path_at}
+pub use Rattle.cap_tree.specs.Rows.{AreRows, IsAt, Row, items_to, queues_of, rows_to, PositionsArePaths}
+pub use Rattle.cap_tree.specs.Service.{levels_at, HasPathsOnce, items_along, queue_cmp}
+pub use Rattle.cap_tree.specs.ServiceLaws.{queue_cmp_total}
+pub use Rattle.cap_tree.specs.Spot.{HoldsOfItem, IsPosition, item_at, path_at, Spot, change_along, leads_to, made_of, along, first_failing}
+pub use Rattle.cap_tree.specs.Walk.{HasNoMarkAfter, IsFirstMark, IsMarkAfter, mark_at, place_cmp, AreMarked}
+pub use Rattle.cap_vector.specs.Fullness.{shares, shares_cmp}
 pub use Rattle.cap_vector.specs.Vector.{amounts_exchanged, less}
+pub use Rattle.std.proofs.Common.{Bool, List, [], ap, arith, cond, drop, false, inl, inr, length, length-append, map, refl, rules, subst, suc, sym, take, true, vec_capacity, vec_len, zero, ℕ, ◌&&◌, ◌++◌, ◌+◌, ◌-◌, ◌/◌, ◌<◌, ◌∙◌, ◌∷◌, ◌≡◌, ◌≢◌, ◌≤◌, ◌⊎◌, get_or}
+pub use Rattle.std.proofs.Math.ListN.{set}
+pub use Rattle.std.proofs.Math.Nat.{one-le_iff_ne-zero}
+pub use Rattle.std.proofs.Math.Seq.{drop-append_seam, get_or-append_seam}
+pub use Rattle.std.proofs.lemmas.Bool.Decides.{nat_tests}
+pub use Rattle.std.proofs.lemmas.Bool.{and_parts, cases_Bool, cases_lt, eq-eqb, eqb-true, ne_eqb, cases_eq}
+pub use Rattle.std.proofs.lemmas.Cmp.{lists_total, nat_cmp_total, on_total, ranked, then_total, tied_itself}
+pub use Rattle.std.proofs.lemmas.Grind.{flat_map-append, get_or_default_zero}
+pub use Rattle.std.proofs.lemmas.List.Concat.{flat_map-cons}
+pub use Rattle.std.proofs.lemmas.List.Elements.{All-push, filter-append}
+pub use Rattle.std.proofs.lemmas.List.Sums.{count_by_more_no, count_by_more_yes}
+pub use Rattle.std.proofs.lemmas.List.{append-nil, append_assoc, drop-append-le, drop-map, length-drop, length-map, length-take-le, map-append, map-id, map_push, nil_from_length, take-append-le, take_all, take_more, get_or_default, get_or_append_left, get_or-set_other, get_or-set_same, length-set}
+pub use Rattle.std.proofs.lemmas.Option.{get_or_from_slice_get, same_Some, slice_get-map, slice_get_read, slice_get_within, slice_get-get_or}
+pub use Rattle.std.proofs.lemmas.Slice.Eq.{bytes_eq-Decides}
+pub use Rattle.std.specs.Borrow.{RattleType}
+pub use Rattle.std.specs.Cmp.Lexicographic.{slice_cmp}
+pub use Rattle.std.specs.Cmp.{IsTotalOrder, nat_cmp_is}
+pub use Rattle.std.specs.List.{All, list_all, list_any, slice_get, take-map}
+pub use Rattle.std.specs.Mem.{FitsInMemory}
+pub use Rattle.std.specs.Option.{option_map_or}
+pub use Rattle.std.specs.Ordering.{MatchOrdering, is_gt, is_lt, nat_cmp, ordering_reverse, ordering_then}
+pub use Rattle.std.specs.Prelude.{None, Option, Some, bytes_eq, filter, find, flat_map, nat_lt, not, option_map, slice_index, unwrap_or, ◌==◌, if◌then◌else◌, is_some}
+pub use Rattle.std.specs.declared.alloc.Allocator.{Ghosts}
+pub use Rattle.std.specs.declared.cmp.Ordering.TheVariants.{Equal, Greater, Less}
+pub use Rattle.std.specs.declared.cmp.Ordering.{Ordering}

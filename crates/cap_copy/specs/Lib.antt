@@ -4,6 +4,8 @@ pub mod Entries
 pub mod Limits
 pub mod Order
 pub mod SeenApp
+pub mod SeenTree
+pub mod ServiceOrder
 pub mod Sizes
 pub mod Snapshot
 pub mod Sources

@@ -3,7 +3,7 @@ use Rattle.std.specs.Prelude.{ℕ, zero, suc, List, [], ◌∷◌, cond, length}
 use Rattle.std.specs.Ordering.{is_gt}
 use Rattle.std.specs.declared.cmp.Ordering.{Ordering}
 use Rattle.cap_tree.specs.Rows.{Row}
-use Rattle.cap_tree.specs.ServiceOrder.{waiting_cmp}
+use Rattle.cap_copy.specs.ServiceOrder.{waiting_cmp}
 
 -- a number put before the first that it is not greater than, among numbers in an order
 abbrev pub placed_in : (ℕ → ℕ → Ordering) → ℕ → List ℕ → List ℕ

@@ -6,7 +6,7 @@ use Rattle.cap_base.specs.Members.{IsRising}
 use Rattle.cap_model.specs.Flat.{NodeTable, no_apps, no_nodes}
 use Rattle.cap_model.specs.Sight.{AppSight, NodeSight, Sight, app_sight}
 use Rattle.cap_tree.specs.Rows.{AreRows, IsAt, Row}
-use Rattle.cap_tree.specs.Seen.{SeenRows}
+use Rattle.cap_copy.specs.SeenTree.{SeenRows}
 use Rattle.cap_tree.specs.Spot.{IsPosition}
 use Rattle.cap_asks.specs.Accounts.{AreKept, HeldApp}
 use Rattle.cap_asks.specs.Apps.{HeldApps, account_of, position_of, waiting_of}

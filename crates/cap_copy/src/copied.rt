@@ -11,12 +11,13 @@ use crate::asks::take_reserved;
 use crate::nodes::{seen_nodes, set_skips};
 use crate::seen::{SeenAsk, SeenNode};
 use crate::seen_app::{SeenApp, seen_apps};
+use crate::seen_tree::SeenTree;
 use crate::snapshot::Snapshot;
 use crate::waiting::note_waiting;
 use cap_asks::Apps;
 use cap_model::NoMemory;
 use cap_nodes::Nodes;
-use cap_tree::{QueueTree, SeenTree};
+use cap_tree::QueueTree;
 use http_server::Log;
 use std::alloc::{Allocator, Global};
 use std::marker::Model;
@@ -98,7 +99,7 @@ impl<const K: usize, B: Allocator + Copy> ClusterCopy<K, B> {
         let Ok(skips) = Vec::from_elem(alloc, 0, present.len()) else {
             return Err(NoMemory);
         };
-        let tree = match tree.seen_in(alloc, waiting.len()) {
+        let tree = match SeenTree::copy_of(alloc, tree, waiting.len()) {
             Ok(tree) => tree,
             Err(NoMemory) => return Err(NoMemory),
         };

@@ -8,9 +8,9 @@ ghost use Rattle.cap_copy.specs.Snapshot.{IsNextAfter, IsSkip, IsSnapshot, IsUpT
 use crate::ranges::{AskRange, range_of};
 use crate::seen::{SeenAsk, SeenNode};
 use crate::seen_app::SeenApp;
+use crate::seen_tree::SeenTree;
 use cap_asks::Apps;
 use cap_nodes::Nodes;
-use cap_tree::SeenTree;
 use cap_vector::Resource;
 use http_server::Log;
 use std::alloc::Allocator;

@@ -5,7 +5,7 @@ ghost use Rattle.cap_base.specs.Limits.{applications_max};
 ghost use Rattle.cap_tree.specs.Spot.{IsPosition};
 
 use crate::seen_app::SeenApp;
-use cap_tree::SeenTree;
+use crate::seen_tree::SeenTree;
 use std::alloc::Allocator;
 
 /// Notes in a tree in which nothing waits yet where the applications do, each under its index. It takes no memory.

@@ -10,9 +10,9 @@ use Rattle.atomic_table.proofs.shared.Seat.TheSendSync as seat
 use Rattle.atomic_table.proofs.owned.Table.TheSendSync as table
 use Rattle.cap_tree.proofs.branch.Branch.TheLaws.TheKnot as knot
 use Rattle.cap_tree.proofs.queue.Queue.TheSendSync as queue
-use Rattle.cap_tree.proofs.seen.SeenQueue.TheSendSync as seen_queue
-use Rattle.cap_tree.specs.contracts.seen.SeenQueue as SeenQueue
-use Rattle.cap_tree.specs.contracts.seen.SeenTree as SeenTree
+use Rattle.cap_copy.proofs.seen_queue.SeenQueue.TheSendSync as seen_queue
+use Rattle.cap_copy.specs.contracts.seen_queue.SeenQueue as SeenQueue
+use Rattle.cap_copy.specs.contracts.seen_tree.SeenTree as SeenTree
 use Rattle.cap_tree.specs.contracts.tree.QueueTree as QueueTree
 use Rattle.cap_asks.proofs.apps.Apps.TheSendSync as apps
 use Rattle.cap_nodes.proofs.nodes.Nodes.TheSendSync as nodes

@@ -8,7 +8,6 @@ pub mod Growing
 pub mod Listings
 pub mod Looking
 pub mod Names
-pub mod NextServed
 pub mod OneUser
 pub mod Orders
 mod Prelude
@@ -23,6 +22,5 @@ pub mod Spots
 pub mod Trees
 pub mod UserCopies
 pub mod Users
-pub mod Waits
 pub mod Walks
 pub mod Within

@@ -16,8 +16,6 @@ use Rattle.cap_base.specs.contracts.settings.QueueRow as row
 use Rattle.cap_tree.specs.contracts.change.Move as move
 use Rattle.cap_tree.specs.contracts.count.Count as count
 use Rattle.cap_tree.specs.contracts.queue.Queue as queue
-use Rattle.cap_tree.specs.contracts.seen.SeenQueue as seen_queue
-use Rattle.cap_tree.specs.contracts.seen.SeenTree as seen_tree
 use Rattle.cap_tree.specs.contracts.tree.QueueTree as tree
 
 -- what stands in a struct at a field, in that one's field and so on
@@ -57,18 +55,6 @@ path_fits K A alloc = part_fits (layout (tree.the_row K A alloc)) (1 ∷ [])
 
 pub queue_fits : (K A : RattleType) (alloc : Ghosts A.Denot) → FitsInMemory (tree.the_row K A alloc) → FitsInMemory (queue.the_row K A alloc)
 queue_fits K A alloc = part_fits (layout (tree.the_row K A alloc)) (0 ∷ 0 ∷ [])
-
-pub seen_fits : (K A : RattleType) (alloc : Ghosts A.Denot) → FitsInMemory (seen_tree.the_row K A alloc) → FitsInMemory (seen_queue.the_row K A alloc)
-seen_fits K A alloc = part_fits (layout (seen_tree.the_row K A alloc)) (0 ∷ 0 ∷ [])
-
-pub name_in_seen : (K A : RattleType) (alloc : Ghosts A.Denot) → FitsInMemory (seen_queue.the_row K A alloc) → FitsInMemory (path.the_row denote.Builtin.u8 (number 24) A alloc)
-name_in_seen K A alloc = part_fits (layout (seen_queue.the_row K A alloc)) (0 ∷ [])
-
-pub amounts_in_seen : (K MAX A : RattleType) (alloc : Ghosts A.Denot) → FitsInMemory (seen_queue.the_row K A alloc) → FitsInMemory (amounts.the_row K MAX)
-amounts_in_seen K MAX A alloc = part_fits (layout (seen_queue.the_row K A alloc)) (1 ∷ [])
-
-pub shares_in_seen : (K A : RattleType) (alloc : Ghosts A.Denot) → FitsInMemory (seen_queue.the_row K A alloc) → FitsInMemory (shares.the_row K)
-shares_in_seen K A alloc = part_fits (layout (seen_queue.the_row K A alloc)) (5 ∷ [])
 
 pub count_fits : (K MAX A : RattleType) (alloc : Ghosts A.Denot) → FitsInMemory (tree.the_row K A alloc) → FitsInMemory (count.the_row K MAX)
 count_fits K MAX A alloc = part_fits (layout (tree.the_row K A alloc)) (0 ∷ 0 ∷ 5 ∷ [])

@@ -1,6 +1,6 @@
 -- The tests of limits, as code and as the model makes them.
-use Rattle.cap_tree.proofs.Prelude.{◌≡◌, ℕ, zero, suc, ◌*◌, ◌≤◌, Bool, true, false, List, [], ◌∷◌, Some, None, refl, sym, ◌∙◌, ap, subst, arith, inl, inr, ◌↔◌, ◌&&◌, IsTrue, Option, if◌then◌else◌, is_some, not, amount, amounts_exchanged, FitsTimes, IsWithin, sum_max, amount-exchanged, option_map_or, holds_of, fits, times, fits_user_limit, fits_amounts, amounts_fit, Measure, use_alone, along, first_failing, item_at, path_at, IsPosition, Queue, stays_in_maximum, stays_in_user_limit, Row, HasRoomAtRoot, PositionsArePaths, root_use, broken_level, over_limit, stays_in_limits, Maximum, User}
-use Rattle.cap_tree.proofs.RowPaths.{along_rows, none_fails}
+use Rattle.cap_tree.proofs.Prelude.{◌≡◌, ℕ, zero, suc, ◌*◌, ◌≤◌, Bool, true, false, List, [], ◌∷◌, Some, None, refl, sym, ◌∙◌, ap, subst, arith, inl, inr, ◌↔◌, IsTrue, if◌then◌else◌, amount, amounts_exchanged, FitsTimes, IsWithin, sum_max, amount-exchanged, option_map_or, holds_of, fits, times, fits_amounts, amounts_fit, Measure, use_alone, along, first_failing, item_at, path_at, IsPosition, stays_in_maximum, stays_in_user_limit, Row, HasRoomAtRoot, PositionsArePaths, root_use, broken_level, over_limit, Maximum, User}
+use Rattle.cap_tree.proofs.RowPaths.{along_rows}
 
 same_test : (b c : Bool) (P : Type 0) → IsTrue b ↔ P → (c ≡ true → P) → (P → c ≡ true) → b ≡ c
 same_test true c P d f g = sym (g (d.0 refl))
@@ -45,18 +45,3 @@ module _ (K : ℕ) (position user old new : List ℕ) (rows : List Row) (paths :
   over_user b e s =
       ap (λ o. option_map_or (λ n. Some (Maximum n)) o (if holds_of (stays_in_user_limit K user old new) (item_at position rows) then None else Some User)) (level_is ∙ sym e)
       ∙ ap (λ c. if c then None else Some User) (sym s)
-
--- all limits are met where no queue on the way fails, and the leaf's limit of a user is met
-module _ (used position old new : List ℕ) (rows : List Row) (paths : PositionsArePaths rows) (there : IsPosition rows position) where
-  abbrev fits_leaf : Queue → Bool
-  fits_leaf q = fits_user_limit q.factor q.guaranteed (amounts_exchanged old new used)
-
-  module _ (level : Option ℕ) (is : level ≡ first_failing (stays_in_maximum old new) (along position rows)) where
-    limits_are : not (is_some level) && holds_of fits_leaf (item_at position rows) ≡ stays_in_limits used old new position rows
-    limits_are = ap (λ b. b && holds_of fits_leaf (item_at position rows)) (ap (λ o. not (is_some o)) is ∙ none_fails (stays_in_maximum old new) position rows paths there)
-
-    pub one_fails : is_some level ≡ true → false ≡ stays_in_limits used old new position rows
-    one_fails e = ap (λ b. not b && holds_of fits_leaf (item_at position rows)) (sym e) ∙ limits_are
-
-    pub leaf_decides : is_some level ≡ false → (b : Bool) → b ≡ holds_of fits_leaf (item_at position rows) → b ≡ stays_in_limits used old new position rows
-    leaf_decides e b h = h ∙ ap (λ c. not c && holds_of fits_leaf (item_at position rows)) (sym e) ∙ limits_are

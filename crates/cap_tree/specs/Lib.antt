@@ -8,10 +8,8 @@ pub mod Paths
 pub mod Queue
 pub mod QueueLaws
 pub mod Rows
-pub mod Seen
 pub mod Service
 pub mod ServiceLaws
-pub mod ServiceOrder
 pub mod Spot
 pub mod UserLaws
 pub mod Walk

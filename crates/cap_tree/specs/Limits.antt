@@ -1,13 +1,10 @@
 -- The limit that a change of use in a leaf would pass.
-use Rattle.std.specs.Prelude.{ℕ, Bool, ◌&&◌, if◌then◌else◌, List, Option, Some, None}
-use Rattle.std.specs.List.{list_all}
+use Rattle.std.specs.Prelude.{ℕ, if◌then◌else◌, List, Option, Some, None}
 use Rattle.std.specs.Option.{option_map_or}
-use Rattle.cap_vector.specs.Vector.{amounts_exchanged}
 use Rattle.cap_base.specs.Cascade.{holds_of}
-use Rattle.cap_base.specs.LimitTests.{fits_user_limit}
 use Rattle.cap_tree.specs.Spot.{first_failing, item_at, path_at}
 use Rattle.cap_tree.specs.Queue.{stays_in_maximum, stays_in_user_limit}
-use Rattle.cap_tree.specs.Rows.{Row, items_to, rows_to}
+use Rattle.cap_tree.specs.Rows.{Row, rows_to}
 use Rattle.cap_tree.specs.declared.over_limit.OverLimit.{OverLimit}
 use Rattle.cap_tree.specs.declared.over_limit.OverLimit.TheVariants.{Maximum, User}
 
@@ -20,9 +17,3 @@ abbrev pub over_limit : ℕ → List ℕ → List ℕ → List ℕ → List ℕ 
 over_limit K position user old new rows =
     option_map_or (λ level. Some (Maximum level)) (broken_level (path_at position rows) old new rows)
     (if holds_of (stays_in_user_limit K user old new) (item_at position rows) then None else Some User)
-
--- whether the queues on the way to a position stay within their maximums, and one who uses so much there within the user limit of the leaf
-abbrev pub stays_in_limits : (used old new position : List ℕ) → List Row → Bool
-stays_in_limits used old new position rows =
-    list_all (stays_in_maximum old new) (items_to (path_at position rows) rows)
-    && holds_of (λ q. fits_user_limit q.factor q.guaranteed (amounts_exchanged old new used)) (item_at position rows)

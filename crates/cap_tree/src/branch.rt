@@ -32,6 +32,7 @@ pub trait TreeItem {
 
     ghost order: { Self → Self → Ordering };
 
+    /// Its name among its siblings.
     fn name(&self) -> &[u8]
         ensures { result.now ≡ name self.now };
 }
@@ -50,11 +51,13 @@ pub trait Change<T: TreeItem> {
 
     ghost grows: { Self → T → Type 0 };
 
+    /// Changes an item above the one that is changed. It takes no memory.
     fn change_above(&self, item: &mut T)
         requires fits { (m : Measure) → old self.now m ≤ T.stored item.old m }
         requires within { MayChange (T.stored item.old) (old self.now) (new self.now) }
         ensures { item.new ≡ above self.now item.old };
 
+    /// Changes the item itself. `NoMemory` changes nothing, and comes only where the item grows.
     fn change_at(&self, item: &mut T) -> Result<(), NoMemory>
         requires can { can self.now item.old }
         requires within { MayChange (T.stored item.old) (old self.now) (new self.now) }
@@ -85,6 +88,7 @@ pub trait Change<T: TreeItem> {
 pub trait Test<T> {
     ghost passes: { Self → T → Bool };
 
+    /// Whether an item passes it.
     fn passes(&self, item: &T) -> bool
         ensures { result ≡ passes self.now item.now };
 }
@@ -93,6 +97,7 @@ pub trait Test<T> {
 pub trait CopyIn<U: TreeItem, B: Allocator>: TreeItem {
     ghost copied: { Self → U };
 
+    /// The copy. An error means that an allocation failed.
     fn copy_in(&self, alloc: B) -> Result<U, NoMemory>
         ensures { IfOk result (λ copy. copy ≡ copied self.now) };
 
@@ -105,6 +110,7 @@ pub trait CopyIn<U: TreeItem, B: Allocator>: TreeItem {
 
 /// An item that knows its place in the order of service.
 pub trait Served: TreeItem {
+    /// Which of two siblings is served first: the lesser.
     fn cmp_served(&self, other: &Self) -> Ordering
         ensures { result ≡ Self.order self.now other.now };
 
@@ -117,6 +123,7 @@ pub trait Served: TreeItem {
 pub trait Marked: Served {
     ghost mark: { Self → ℕ };
 
+    /// The mark, which is 0 where nothing waits at it.
     fn mark(&self) -> u32
         ensures { result ≡ mark self.now };
 
@@ -415,7 +422,7 @@ impl<T: TreeItem + Drop, A: Allocator + Copy> Branch<T, A> {
     }
 
     /// Its own item, which is above all others.
-    pub(crate) fn top(&self) -> &T
+    pub fn top(&self) -> &T
         ensures { IsTop T.name result.now self.now }
     {
         &self.item
@@ -569,7 +576,7 @@ impl<T: TreeItem + Drop, A: Allocator + Copy> Branch<T, A> {
     }
 
     /// No two items are alike in the order of service. It does nothing.
-    pub(crate) fn places_differ(&self)
+    pub fn places_differ(&self)
     where
         T: Served,
         requires { HasPathsOnce self.now }

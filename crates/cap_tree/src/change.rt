@@ -1,11 +1,9 @@
-//! The changes of a tree, each at one queue and those above it: what a user counts is moved, a queue's state or settings are set, or
-//! one more waits there.
+//! The changes of a tree, each at one queue and those above it: what a user counts is moved, or a queue's state or settings are set.
 ghost use Rattle.std.specs.Prelude.{◌≡◌};
 
 use crate::branch::{Change, Test};
 use crate::count::Part;
 use crate::queue::Queue;
-use crate::seen::SeenQueue;
 use cap_base::{NoMemory, QueueRow, ShortText};
 use std::alloc::Allocator;
 
@@ -146,54 +144,6 @@ impl<'a, const K: usize, A: Allocator> Change<Queue<K, A>> for SetSettings<'a, K
     ghost own_at = { λ c x m h. same_number (of_users x m) };
 
     ghost old_fits = { λ c x m h. none_fits (of_users x m) };
-}
-
-/// What has that mark waits at a queue, after all that do so.
-#[derive(Drop)]
-pub(crate) struct Wait {
-    pub(crate) mark: u32,
-}
-
-impl<const K: usize, B: Allocator> Change<SeenQueue<K, B>> for Wait {
-    ghost use Rattle.std.specs.Prelude.{refl};
-    ghost use Rattle.cap_tree.specs.Queue.{of_queue, of_users};
-    ghost use Rattle.cap_tree.specs.QueueLaws.{none_fits, same_number};
-    ghost use Rattle.cap_tree.specs.Seen.{waiting_at, waiting_below};
-
-    ghost old = { λ c m. 0 };
-
-    ghost new = { λ c m. 0 };
-
-    ghost above = { λ c. waiting_below };
-
-    ghost at = { λ c. waiting_at c.mark };
-
-    ghost can = { λ c q. Unit {0} };
-
-    ghost grows = { λ c q. ⊥ };
-
-    fn change_above(&self, item: &mut SeenQueue<K, B>) {
-        item.mark_above();
-    }
-
-    fn change_at(&self, item: &mut SeenQueue<K, B>) -> Result<(), NoMemory> {
-        item.mark_at(self.mark);
-        Ok(())
-    }
-
-    ghost name_above = { λ c x. refl };
-
-    ghost name_at = { λ c x. refl };
-
-    ghost stored_above = { λ c x m. same_number (of_queue x.queue m) };
-
-    ghost stored_at = { λ c x m. same_number (of_queue x.queue m) };
-
-    ghost own_above = { λ c x m. refl };
-
-    ghost own_at = { λ c x m h. same_number (of_users x.queue m) };
-
-    ghost old_fits = { λ c x m h. none_fits (of_users x.queue m) };
 }
 
 /// Whether a queue's own state is RUNNING.

@@ -7,11 +7,10 @@ mod count;
 mod found;
 mod over_limit;
 mod queue;
-mod seen;
 mod tree;
 
+pub use branch::{Branch, Change, CopyIn, Marked, Served, Test, TreeItem};
 pub use found::{Found, Path};
-pub use over_limit::OverLimit;
+pub use over_limit::{InMaximum, OverLimit, fits_in_maximum};
 pub use queue::Queue;
-pub use seen::SeenTree;
 pub use tree::QueueTree;

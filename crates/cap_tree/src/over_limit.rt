@@ -19,9 +19,11 @@ pub enum OverLimit {
 
 /// Whether the use of a queue, with `old` taken away and `new` added, is within its maximum.
 #[derive(Drop)]
-pub(crate) struct InMaximum<'a, const K: usize> {
-    pub(crate) old: &'a Resource<K>,
-    pub(crate) new: &'a Resource<K>,
+pub struct InMaximum<'a, const K: usize> {
+    /// What is taken away, in MiB, vcores and GPUs.
+    pub old: &'a Resource<K>,
+    /// What is added, in MiB, vcores and GPUs.
+    pub new: &'a Resource<K>,
 }
 
 impl<'a, const K: usize, A: Allocator> Test<Queue<K, A>> for InMaximum<'a, K> {
@@ -35,7 +37,7 @@ impl<'a, const K: usize, A: Allocator> Test<Queue<K, A>> for InMaximum<'a, K> {
 }
 
 /// Whether a use stays within a maximum with `old` taken away and `new` added: always where nothing bounds it.
-pub(crate) fn fits_in_maximum<const K: usize>(
+pub fn fits_in_maximum<const K: usize>(
     maximum: &Option<Resource<K>>,
     used: &Sum<K>,
     old: &Resource<K>,

@@ -191,7 +191,7 @@ impl<const K: usize, A: Allocator> Queue<K, A> {
     }
 
     /// The shares of its guarantee that are used in it and under it.
-    pub(crate) fn shares(&self) -> Shares<K>
+    pub fn shares(&self) -> Shares<K>
         ensures { result ≡ shares self.now.used self.now.guaranteed }
     {
         self.shares
@@ -351,7 +351,7 @@ fn row_of<'a, const K: usize, A: Allocator>(
     ensures { option_copied result ≡ get bytes_eq users.now user.now }
 {
     if users.len() > FEW_USERS {
-        return users.get(user);
+        return hashed_row(users, user);
     }
     for index in 0..users.len() {
         if let Some((name, count)) = users.get_index(index) {
@@ -361,6 +361,17 @@ fn row_of<'a, const K: usize, A: Allocator>(
         }
     }
     None
+}
+
+/// The same by the user's hash. It is a call of its own, so that a look at a few users costs nothing that only a hash needs.
+#[inline(never)]
+fn hashed_row<'a, const K: usize, A: Allocator>(
+    users: &'a Users<K, A>,
+    user: &ShortText,
+) -> Option<&'a Total<K>>
+    ensures { option_copied result ≡ get bytes_eq users.now user.now }
+{
+    users.get(user)
 }
 
 /// The last name of a dotted path.

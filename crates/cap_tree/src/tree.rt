@@ -31,7 +31,7 @@ use std::marker::Model;
 /// list of rows, each queue before those under it.
 #[derive(Drop)]
 pub struct QueueTree<const K: usize, A: Allocator> {
-    pub(crate) root: Branch<Queue<K, A>, A>,
+    root: Branch<Queue<K, A>, A>,
     start: Path<A>,
 }
 
@@ -86,6 +86,14 @@ impl<const K: usize, A: Allocator + Copy> QueueTree<K, A> {
             }),
             Err(NoMemory) => Err(NoMemory),
         }
+    }
+
+    /// The queues, with those under each. And what `find` says of every tree.
+    pub fn root(&self) -> &Branch<Queue<K, A>, A>
+        ensures queues { result.now ≡ self.now }
+        ensures rows { AreRows self.now }
+    {
+        &self.root
     }
 
     /// What is found at a dotted path. It takes no memory, and looks only at the queues on the way and at their siblings. And what

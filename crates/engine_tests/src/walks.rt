@@ -3,8 +3,9 @@ ghost use Rattle.std.specs.Prelude.{◌≡◌, ◌<◌, ◌≤◌, [], map, leng
 ghost use Rattle.cap_tree.specs.Spot.{IsPosition};
 
 use cap_base::RESOURCES;
+use cap_copy::SeenTree;
 use cap_testing::{Change, ChangeAt, tree_after};
-use cap_tree::{Found, Path, QueueTree, SeenTree};
+use cap_tree::{Found, Path, QueueTree};
 use std::alloc::Global;
 
 type Tree = QueueTree<RESOURCES, Global>;
@@ -114,7 +115,7 @@ fn walked(alloc: Global, tree: &Tree, paths: &[&str], is_sorted: bool) -> Option
     if paths.len() > 8 {
         return None;
     }
-    let Ok(mut waiting) = tree.seen_in(alloc, paths.len()) else {
+    let Ok(mut waiting) = SeenTree::copy_of(alloc, tree, paths.len()) else {
         return None;
     };
     let places = wait_at_each(alloc, tree, &mut waiting, paths)?;

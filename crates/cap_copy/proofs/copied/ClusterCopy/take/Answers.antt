@@ -23,8 +23,8 @@ seen_apps-requires g c =
       ),
     )
 
-pub seen_in-requires : goal.seen_in-requires
-seen_in-requires g c =
+pub copy_of-requires : goal.copy_of-requires
+copy_of-requires g c =
     let few = c.requires.resources in
     let fits = c.requires.fits.snapshot in
     (search rules, search (tree_in_snapshot, fits))
@@ -37,13 +37,13 @@ invariant_of-result g c =
     let asks = c.in-Ok-seen_apps.copied.1.items in
     let nodes = c.in-Ok-seen_nodes.present.items in
     let skips = c.in-Ok-from_elem.skips.items in
-    let tree = c.in-Ok-seen_in.tree in
+    let tree = c.in-Ok-copy_of.tree in
     let live = c.live_count.result in
     let next = c.next_container.result in
     let sources = c.and.ensures ∙ ap (λ l. l ++ (c.args.apps.now, c.args.nodes.now) ∷ []) c.new.ensures in
     let held = c.in-Ok-seen_apps.ensures.seen.held ∙ c.deref.ensures.value in
     subst (λ (ps : Parts). IsCopied K ps (map (λ (a : SeenApp). a.held) seen) tree seen asks nodes skips live next)
-    (sym (λ k. record { rows = c.in-Ok-seen_in.ensures.rows k; apps = held_apps_in (sources k); nodes = nodes_in (sources k) }))
+    (sym (λ k. record { rows = c.in-Ok-copy_of.ensures.rows k; apps = held_apps_in (sources k); nodes = nodes_in (sources k) }))
     (record {
       copied = subst (λ ws. IsCopy K parts ws seen asks nodes live next) (sym held)
           (record {
@@ -61,11 +61,11 @@ invariant_of-result g c =
             live_is = c.live_count.ensures.value;
             next_is = c.next_container.ensures;
           });
-      rows_are = c.seen_in.ensures.whole;
-      none = c.in-Ok-seen_in.ensures.none;
+      rows_are = c.copy_of.ensures.whole;
+      none = c.in-Ok-copy_of.ensures.none;
       room =
           (let n = length-map seen (λ (a : SeenApp). a.held) in
-          subst (λ n. n ≤ tree.room) (c.len-2.ensures ∙ c.in-Ok.waiting.ok.0 ∙ ap length (sym held) ∙ n) c.in-Ok-seen_in.ensures.room);
+          subst (λ n. n ≤ tree.room) (c.len-2.ensures ∙ c.in-Ok.waiting.ok.0 ∙ ap length (sym held) ∙ n) c.in-Ok-copy_of.ensures.room);
       skips_are = sym c.in-Ok-from_elem.skips.ok.0 ∙ c.in-Ok-from_elem.ensures.len ∙ c.len.ensures ∙ c.in-Ok-seen_nodes.present.ok.0;
     })
 
@@ -81,8 +81,8 @@ drop-seen-requires-room-T-Destruct g c κs within = seen_app_of_few _ c.requires
 pub drop-seen-requires-in_default-room-T-Destruct : goal.drop-seen-requires-in_default-room-T-Destruct
 drop-seen-requires-in_default-room-T-Destruct g c κs within = seen_app_of_few _ c.requires.resources
 
-pub drop-seen-requires-in-Err-seen_in-room-T-Destruct : goal.drop-seen-requires-in-Err-seen_in-room-T-Destruct
-drop-seen-requires-in-Err-seen_in-room-T-Destruct g c κs within = seen_app_of_few _ c.requires.resources
+pub drop-seen-requires-in-Err-copy_of-room-T-Destruct : goal.drop-seen-requires-in-Err-copy_of-room-T-Destruct
+drop-seen-requires-in-Err-copy_of-room-T-Destruct g c κs within = seen_app_of_few _ c.requires.resources
 
 pub seen_nodes-requires : goal.seen_nodes-requires
 seen_nodes-requires g c = (nodes_of_few _ c.requires.resources, seen_node_of_few _ c.requires.resources)

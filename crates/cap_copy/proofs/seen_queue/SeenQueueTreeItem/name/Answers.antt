@@ -1,0 +1,5 @@
+use Rattle.cap_copy.proofs.Fitting.{name_in_seen}
+use Rattle.cap_copy.proofs.seen_queue.SeenQueueTreeItem.name.Goals as goal
+
+pub as_slice-requires : goal.as_slice-requires
+as_slice-requires g c = search name_in_seen

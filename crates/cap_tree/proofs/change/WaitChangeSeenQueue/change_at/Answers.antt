@@ -1,4 +1,0 @@
-use Rattle.cap_tree.proofs.change.WaitChangeSeenQueue.change_at.Goals as goal
-
-pub mark_at-requires : goal.mark_at-requires
-mark_at-requires g c = search

@@ -1,5 +1,0 @@
-use Rattle.cap_tree.proofs.Sizes.{amounts_in_seen}
-use Rattle.cap_tree.proofs.seen.InMaximumTestSeenQueue.passes.Goals as goal
-
-pub fits_in_maximum-requires : goal.fits_in_maximum-requires
-fits_in_maximum-requires g c = search amounts_in_seen

@@ -1,5 +1,0 @@
-use Rattle.std.proofs.Common.{ap}
-use Rattle.cap_tree.proofs.seen.SeenQueue.last.Goals as goal
-
-pub returns : goal.returns
-returns g c = ap (λ q. q.last) c.self.view_is

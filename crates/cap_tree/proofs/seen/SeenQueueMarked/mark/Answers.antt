@@ -1,5 +1,0 @@
-use Rattle.std.proofs.Common.{ap}
-use Rattle.cap_tree.proofs.seen.SeenQueueMarked.mark.Goals as goal
-
-pub returns : goal.returns
-returns g c = ap (λ q. q.first) c.self.view_is
