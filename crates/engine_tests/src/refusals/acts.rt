@@ -190,11 +190,15 @@ fn offer<J: Naming, H: Wait>(
 }
 
 fn show<J: Naming, H: Wait>(rt: &H, shared: &Shared<J>, seat: &mut Seat<J>) -> ActEnd {
-    let shown = shared.hold_to_schedule(rt).show(seat);
-    let Ok(shown) = shown else {
+    let copied = shared.hold_to_schedule(rt).copy_to_show(seat);
+    let Ok(copy) = copied else {
         return ActEnd::Refused;
     };
-    match propose(shown.snapshot(), 0) {
+    let choice = match shared.show(rt, seat, copy) {
+        Ok(shown) => propose(shown.snapshot(), 0),
+        Err(own) => propose(own.snapshot(), 0),
+    };
+    match choice {
         Some(proposal) if is_grant(&proposal) => ActEnd::Made,
         _ => ActEnd::Other,
     }
