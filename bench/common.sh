@@ -68,12 +68,12 @@ need_valgrind() {
 }
 
 # count WORDS..: runs the program with these words on the script under callgrind: the instructions that clear and copy memory, of which it counts about one a
-# byte, and all others: `moved` and `other`
+# byte, and all others: `moved` and `other`; and how many of the latter are in functions of their own that drop values: `dropped`
 count() {
   valgrind --tool=callgrind --callgrind-out-file="$work/counts" "$program" "$@" <"$work/script" >"$work/output" 2>"$work/messages" || { tail -n 5 "$work/messages" >&2; exit 1; }
-  read -r moved other < <(callgrind_annotate --threshold=100 "$work/counts" | awk '
-    /^ *[0-9,]+ \(.*\)/ { n = $1; gsub(",", "", n); if (/PROGRAM TOTALS/) total = n; else if (/mem(set|move|cpy)/) moved += n }
-    END { print moved + 0, total - moved }')
+  read -r moved other dropped < <(callgrind_annotate --threshold=100 "$work/counts" | awk '
+    /^ *[0-9,]+ \(.*\)/ { n = $1; gsub(",", "", n); if (/PROGRAM TOTALS/) total = n; else if (/mem(set|move|cpy)/) moved += n; else if (/Destruct::drop/) dropped += n }
+    END { print moved + 0, total - moved, dropped + 0 }')
 }
 
 # ratio FIRST SECOND MOST: prints the ratio of two times or counts, and fails where it is greater
