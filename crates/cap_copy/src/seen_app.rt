@@ -135,15 +135,15 @@ fn seen_app<const K: usize, B: Allocator + Copy>(
         Ok(()) => {}
         Err(NoMemory) => return Err(NoMemory),
     }
-    let leaf = app.position();
-    let used = tree.user_use(leaf, app.user());
-    let Ok(position) = SmallVec::from_slice(*leaf.allocator(), leaf.as_slice()) else {
-        return Err(NoMemory);
-    };
+    let mut position = SmallVec::new(*app.position().allocator());
+    match position.extend_from_slice(app.position().as_slice()) {
+        Ok(()) => {}
+        Err(_) => return Err(NoMemory),
+    }
     Ok(SeenApp {
         number: app.number(),
         position,
-        used,
+        used: tree.user_use(app.position(), app.user()),
         start,
         end: asks.len(),
         source: Log::new().and(app, &0),

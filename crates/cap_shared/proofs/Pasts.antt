@@ -1,9 +1,7 @@
 -- What a seat and the desk keep as the journal grows.
-use Rattle.cap_shared.proofs.Prelude.{◌≡◌, ℕ, suc, ◌+◌, ◌<◌, ◌≤◌, ◌==◌, Bool, true, false, List, [], ◌∷◌, ◌++◌, length, refl, ap, sym, ◌∙◌, subst, arith, length-append, if◌then◌else◌, Me, TableId, resources, Flat, after_event, Step, Event, step_is_determined, Entry, Receipt, NotedAnswer, Moment, Entered, Noted, Mark, Sitting, View, Replays, state_after, receipt_for, seat_entries, receipts_in, position_of, start_of, end_of, end_after, Rises, NoteHolds, NotesHold, IsBy, TagsBelow, AllHonest, keeper, sitter, sitting, sitting_of, NotesBegin, Fits, IsSeat, IsDesk, IsShown, Option, Some, None, ShownLast, append-nil, nil_from_length, Sight, sight_of, ShowTheSame, CopyAfter, Pass, IsNoted, IsEntered, JournalsLeadToStates}
+use Rattle.cap_shared.proofs.Prelude.{◌≡◌, ℕ, suc, ◌+◌, ◌<◌, ◌≤◌, ◌==◌, Bool, true, false, List, [], ◌∷◌, ◌++◌, length, refl, ap, sym, ◌∙◌, subst, arith, length-append, if◌then◌else◌, Me, TableId, resources, Flat, after_event, Step, Event, step_is_determined, Entry, Receipt, NotedAnswer, Moment, Entered, Noted, Mark, Sitting, View, Replays, state_after, receipt_for, seat_entries, receipts_in, position_of, start_of, end_of, end_after, Rises, NoteHolds, NotesHold, IsBy, TagsBelow, AllHonest, keeper, sitter, sitting, sitting_of, NotesBegin, Fits, IsSeat, IsDesk, IsShown, Option, Some, None, ShownLast, Pass, IsNoted, IsEntered, JournalsLeadToStates}
 use mathlib.Core.List.{IsPrefix}
-use Rattle.cap_shared.specs.Passes.{IsCompared}
 use Rattle.cap_model.specs.declared.event.Event.TheVariants as event
-use Rattle.cap_shared.specs.declared.history.NotedAnswer.TheVariants as answer
 use Rattle.cap_shared.proofs.Lists.{receipts_in-told, receipts_in-noted}
 
 pub Replays-push : (s m t : Flat resources) (es : List Entry) (e : Entry) → Replays s es m → Step m e.event t → Replays s (es ++ e ∷ []) t
@@ -114,39 +112,6 @@ module _ (T : TableId) (o : Flat resources) (limit seats n : ℕ) (rs : List Rec
 shown_before : (old new : Flat resources) (n m : ℕ) (shown : Option ShownLast) → n < m → IsShown old n shown → IsShown new m shown
 shown_before old new n m None less h = tt
 shown_before old new n m (Some last) less h = (omega (arith, h.0), λ at. absurd (omega (arith, h.0)))
-
--- a seat's last note has a beginning of the journal, which is the journal where it is as long
-last_note : (log es : List Entry) (ms : List Moment) (a : NotedAnswer) → NotesBegin log (ms ++ Noted es a ∷ []) → IsPrefix es log
-last_note log es [] a h = h.0
-last_note log es (Entered r ∷ ms) a h = last_note log es ms a h
-last_note log es (Noted fs b ∷ ms) a h = last_note log es ms a h.1
-
-whole_prefix : (es log : List Entry) → IsPrefix es log → length es ≡ length log → es ≡ log
-whole_prefix es log p same =
-    let none = nil_from_length p.0 (let n = ap length p.1 in let m = length-append es p.0 in omega (arith, n, m, same)) in
-    sym (append-nil es) ∙ ap (λ (xs : List Entry). es ++ xs) (sym none) ∙ p.1
-
--- what was copied last for a seat shows the cluster as it is, where nothing was entered since
-pub shows_still : (o : Flat resources) (log : List Entry) (cluster : Flat resources) (entries : ℕ) (before s : Sitting) (sight : Sight resources) → Replays o log cluster → Fits log s → CopyAfter o entries before s sight → entries ≡ length log → ShowTheSame sight (sight_of cluster)
-shows_still o log cluster entries before s sight run fits (es, count, (mid, replays, shows, noted)) now =
-    let begins = last_note log es before.past answer.Copied (subst (λ (t : Sitting). NotesBegin log t.past) noted fits.notes) in
-    let same = whole_prefix es log begins (count ∙ now) in
-    let at = state_is o mid es replays ∙ ap (state_after o) same ∙ sym (state_is o cluster log run) in
-    subst (λ (x : Flat resources). ShowTheSame sight (sight_of x)) at shows
-
--- the desk after a snapshot is left there
-pub desk_shows : (T : TableId) (o : Flat resources) (limit seats bound room : ℕ) (cluster : Flat resources) (log : List Entry) (d d' s s' : Pass) (old new : Option ShownLast)
-    → IsDesk T o limit seats cluster log d.table_id d.me bound room old → IsCompared log d d' s s' → IsShown cluster (length log) new → IsDesk T o limit seats cluster log d'.table_id d'.me bound room new
-desk_shows T o limit seats bound room cluster log d d' s s' old new h m shows = record {
-  same = m.desk_table ∙ h.same;
-  keeps = m.keeps ∙ h.keeps;
-  run = h.run;
-  tags = h.tags;
-  limit_is = h.limit_is;
-  fits = h.fits;
-  room_is = h.room_is;
-  shown_is = shows;
-}
 
 -- the desk after an entry
 pub desk_entered : (T : TableId) (o : Flat resources) (limit seats : ℕ) (s t : Flat resources) (log log' : List Entry) (at at' : TableId) (me me' : Me Mark View) (bound room room' : ℕ) (shown : Option ShownLast) (e : Entry)

@@ -2,7 +2,7 @@
 pub use Rattle.std.proofs.Common.{Bool, List, None, Option, Some, [], add-one, ap, append_assoc, arith, false, length, length-append, map, refl, set, subst, suc, sym, true, vec_capacity, zero, zero-add, ℕ, ⊎_elim, ◌++◌, ◌+◌, ◌-◌, ◌<◌, ◌==◌, ◌∙◌, ◌∷◌, ◌≡◌, ◌≢◌, ◌≤◌}
 pub use Rattle.std.proofs.Crossing.{crosses}
 pub use Rattle.std.proofs.lemmas.Bool.Decides.{nat_tests}
-pub use Rattle.std.proofs.lemmas.List.{append-nil, length-map, map-append, nil_from_length}
+pub use Rattle.std.proofs.lemmas.List.{append-nil, length-map, map-append}
 pub use Rattle.std.specs.List.{slice_get}
 pub use Rattle.std.specs.Prelude.{if◌then◌else◌}
 pub use Rattle.std.specs.declared.alloc.Allocator.{Ghosts}
@@ -22,11 +22,10 @@ pub use Rattle.cap_model.specs.News.{Reply}
 pub use Rattle.cap_model.specs.Replies.{Replies}
 pub use Rattle.cap_model.specs.Reporting.{HasRoomForReplies, NewsRoom, full_reply, news_most}
 pub use Rattle.cap_model.specs.Risen.{LimitsAreMetOrNotRisen}
-pub use Rattle.cap_model.specs.Sight.{Sight, sight_of}
+pub use Rattle.cap_model.specs.Sight.{sight_of}
 pub use Rattle.cap_model.specs.declared.event.Event.{Event}
 pub use Rattle.cap_model.specs.declared.request.Request.{Request}
-pub use Rattle.cap_sights.specs.Sights.{ShowTheSame}
-pub use Rattle.cap_shared.specs.Calls.{CopyAfter, HasMore}
+pub use Rattle.cap_shared.specs.Calls.{HasMore}
 pub use Rattle.cap_shared.specs.Journal.{AllHonest, IsBy, NoteHolds, NotesHold, Replays, Rises, TagsBelow, end_after, end_of, events_in, position_of, receipt_for, receipts_in, seat_entries, start_of, state_after}
 pub use Rattle.cap_shared.specs.Laws.{JournalsLeadToStates, JournalsStayBounded}
 pub use Rattle.cap_shared.specs.Making.{event_of_made}

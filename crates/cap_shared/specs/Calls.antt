@@ -84,15 +84,7 @@ abbrev pub TellsFullFirst : ℕ → List Entry → CommitFault → Type 0
 TellsFullFirst limit log (refusal.Sealed back) = limit ≤ length log
 TellsFullFirst limit log (refusal.NoMemory back) = length log < limit
 
--- a copy shows what the cluster showed after these entries, and is noted with them
-abbrev pub CopyAt : Flat resources → List Entry → Sitting → Sitting → Sight resources → Type 0
-CopyAt opening es old new sight =
-    (mid : Flat resources) × Replays opening es mid × ShowTheSame sight (sight_of mid) × HasMore old new (Noted es answer.Copied ∷ [])
-
 -- a copy shows what the cluster showed after the entries of its note
 abbrev pub CopyIs : Flat resources → Sitting → Sitting → Sight resources → Type 0
-CopyIs opening old new sight = (es : List Entry) × CopyAt opening es old new sight
-
--- the same, where the note has so many entries
-abbrev pub CopyAfter : Flat resources → ℕ → Sitting → Sitting → Sight resources → Type 0
-CopyAfter opening entries old new sight = (es : List Entry) × (length es ≡ entries) × CopyAt opening es old new sight
+CopyIs opening old new sight =
+    (es : List Entry) × (mid : Flat resources) × Replays opening es mid × ShowTheSame sight (sight_of mid) × HasMore old new (Noted es answer.Copied ∷ [])

@@ -6,8 +6,7 @@ ghost use Rattle.cap_base.specs.Limits.{resources};
 ghost use Rattle.cap_copy.specs.Snapshot.{sight_in};
 ghost use Rattle.cap_copy.specs.Sources.{sight_of_copy};
 ghost use Rattle.cap_model.specs.Admission.{reason_of};
-ghost use Rattle.cap_shared.specs.declared.history.Sitting.{Sitting};
-ghost use Rattle.cap_shared.specs.Calls.{CallsOk, IsCalledOn, CallMisses, CommitAnswers, CommitsBack, CopyAfter, CopyIs, TellsFull, TellsFullFirst};
+ghost use Rattle.cap_shared.specs.Calls.{CallsOk, IsCalledOn, CallMisses, CommitAnswers, CommitsBack, CopyIs, TellsFull, TellsFullFirst};
 
 use crate::call_room::{CallRoom, is_no_memory, make_call, own_copies};
 use crate::entry::{Entry, Receipt};
@@ -19,13 +18,13 @@ use crate::marks::{
 };
 use crate::passes::{Pass, Word};
 use crate::seat::{Naming, Seat};
-use crate::shown::{CopyToShow, Shown, ShownLast};
+use crate::shown::{Shown, ShownLast};
 use bumpalo::Bump;
 use cap_base::RESOURCES;
 use cap_commit::Cluster;
 use cap_copy::ClusterCopy;
 use cap_model::{Event, NoMemory, OwnedReply, Proposal, Request, StoredRequest, Verdict};
-use cap_sights::{copy_in, copy_of};
+use cap_sights::{copy_in, snapshot_of};
 use std::alloc::Global;
 use std::marker::{Model, PhantomData};
 use std::sync::Arc;
@@ -295,47 +294,37 @@ impl<J: Naming> Desk<J> {
         Some(shown)
     }
 
-    /// A copy of the cluster as it is, which is noted, for a snapshot that is shown to several. If an allocation fails nothing changes.
-    pub fn copy_to_show(
+    /// A snapshot of the cluster as it is, which is noted: the last that was shown, or one that is made now and shown to others as long as
+    /// nothing is entered. If an allocation fails nothing changes but that none is shown any more.
+    pub fn show(
         &mut self,
         alloc: Global,
         word: &Word,
         seat: &mut Seat<J>,
-    ) -> Result<CopyToShow, NoMemory>
+    ) -> Result<Arc<Shown, Global>, NoMemory>
         requires word { (word.now.table_id ≡ J.table) × (0 < word.now.table_id.words) }
-        ensures { MatchResult result
-            (λ copy. CopyAfter J.opening copy.entries seat.old seat.new
-            (sight_of_copy resources copy.copied))
+        ensures { MatchResult result (λ shown.
+            CopyIs J.opening seat.old seat.new (sight_in resources (arc_value shown)))
             (λ _. seat.new ≡ seat.old) }
     {
-        let Ok(copied) = copy_of(alloc, &self.cluster) else {
+        if let Some(shown) = self.shown(word, seat) {
+            return Ok(shown);
+        }
+        self.shown = None;
+        let Ok(snapshot) = snapshot_of(alloc, &self.cluster) else {
             return Err(NoMemory);
         };
-        note_copied(word, &mut self.pass, &self.journal, &mut seat.pass);
-        Ok(CopyToShow {
-            copied,
+        let Ok(shown) = Arc::new(alloc, Shown::new(snapshot)) else {
+            return Err(NoMemory);
+        };
+        let Ok(kept) = Arc::try_clone(&shown) else {
+            return Err(NoMemory);
+        };
+        self.shown = Some(ShownLast {
+            shown: kept,
             entries: self.journal.len(),
-        })
-    }
-
-    /// From now on this snapshot is shown, if it is of the cluster as it is: if nothing was entered since it was copied, which the last note of the
-    /// seat is about. What was shown before comes back.
-    pub fn publish(
-        &mut self,
-        word: &Word,
-        seat: &mut Seat<J>,
-        shown: Arc<Shown, Global>,
-        entries: usize,
-    ) -> Option<ShownLast>
-        requires word { (word.now.table_id ≡ J.table) × (0 < word.now.table_id.words) }
-        requires copied { (before : Sitting) × CopyAfter J.opening entries before seat.old
-            (sight_in resources (arc_value shown)) }
-        ensures { seat.new ≡ seat.old }
-    {
-        compare(word, &mut self.pass, &self.journal, &mut seat.pass);
-        if entries != self.journal.len() {
-            return None;
-        }
-        self.shown.replace(ShownLast { shown, entries })
+        });
+        note_copied(word, &mut self.pass, &self.journal, &mut seat.pass);
+        Ok(shown)
     }
 }

@@ -26,4 +26,4 @@ pub use history::{Mark, Moment, NotedAnswer, Sitting, View};
 pub use laws::{journals_lead_to_states, journals_stay_bounded};
 pub use seat::{Naming, Seat};
 pub use shared::{Hold, Shared};
-pub use shown::{CopyToShow, Shown};
+pub use shown::Shown;

@@ -4,8 +4,7 @@ ghost use Rattle.std.specs.Arc.{arc_value};
 ghost use Rattle.cap_base.specs.Limits.{resources};
 ghost use Rattle.cap_copy.specs.Snapshot.{sight_in};
 ghost use Rattle.cap_copy.specs.Sources.{sight_of_copy};
-ghost use Rattle.cap_shared.specs.declared.history.Sitting.{Sitting};
-ghost use Rattle.cap_shared.specs.Calls.{CallsOk, IsCalled, CallsBack, CallMisses, CommitAnswers, CommitsBack, CopyAfter, CopyIs};
+ghost use Rattle.cap_shared.specs.Calls.{CallsOk, IsCalled, CallsBack, CallMisses, CommitAnswers, CommitsBack, CopyIs};
 ghost use Rattle.cap_shared.specs.Journal.{Replays, TagsBelow, AllHonest};
 ghost use Rattle.cap_shared.specs.Parts.{report_of};
 ghost use Rattle.cap_shared.specs.WordRule.{first_view, fresh, keeper, AllFit, times};
@@ -18,7 +17,7 @@ use crate::faults::{CallFault, CommitFault, Fault};
 use crate::history::{Mark, View};
 use crate::passes::{Pass, Word};
 use crate::seat::{Naming, Seat};
-use crate::shown::{CopyToShow, Shown, ShownLast};
+use crate::shown::Shown;
 use crate::turnstile::{Place, Turnstile};
 use crate::word_rule::{Compares, Handover, JournalRule};
 use atomic_table::Table;
@@ -135,7 +134,7 @@ impl<'a, J: Naming> Hold<'a, J> {
         self.desk.copy(arena, self.word, seat)
     }
 
-    /// The last snapshot that was shown (`Shared::show`), where it shows the cluster as it is. Else there is none, and nothing changes.
+    /// The last snapshot that was shown, where it shows the cluster as it is. Else there is none, and nothing changes.
     pub fn shown(&mut self, seat: &mut Seat<J>) -> Option<Arc<Shown, Global>>
         ensures { MatchOption result (seat.new ≡ seat.old) (λ shown.
             CopyIs J.opening seat.old seat.new (sight_in resources (arc_value shown))) }
@@ -143,29 +142,14 @@ impl<'a, J: Naming> Hold<'a, J> {
         self.desk.shown(self.word, seat)
     }
 
-    /// A copy of the cluster for a snapshot that is shown to several, which `Shared::show` makes once the cluster is given back. If an allocation
-    /// fails nothing changes.
-    pub fn copy_to_show(&mut self, seat: &mut Seat<J>) -> Result<CopyToShow, NoMemory>
-        ensures { MatchResult result
-            (λ copy. CopyAfter J.opening copy.entries seat.old seat.new
-            (sight_of_copy resources copy.copied))
+    /// A snapshot of the cluster as it is: the last that was shown, or one that is made and arranged while the cluster is held, and that
+    /// `shown` gives until something is entered. If an allocation fails the seat was answered nothing, and none is shown any more.
+    pub fn show(&mut self, seat: &mut Seat<J>) -> Result<Arc<Shown, Global>, NoMemory>
+        ensures { MatchResult result (λ shown.
+            CopyIs J.opening seat.old seat.new (sight_in resources (arc_value shown)))
             (λ _. seat.new ≡ seat.old) }
     {
-        self.desk.copy_to_show(self.alloc, self.word, seat)
-    }
-
-    /// From now on this snapshot is shown, as `Shared::show` says. What was shown before comes back.
-    fn publish(
-        &mut self,
-        seat: &mut Seat<J>,
-        shown: Arc<Shown, Global>,
-        entries: usize,
-    ) -> Option<ShownLast>
-        requires { (before : Sitting) × CopyAfter J.opening entries before seat.old
-            (sight_in resources (arc_value shown)) }
-        ensures { seat.new ≡ seat.old }
-    {
-        self.desk.publish(self.word, seat, shown, entries)
+        self.desk.show(self.alloc, self.word, seat)
     }
 
     /// Whether the journal is full.
@@ -262,35 +246,6 @@ impl<J: Naming> Shared<J> {
             Ok(copied) => Ok(copied.arrange()),
             Err(NoMemory) => Err(NoMemory),
         }
-    }
-
-    /// The snapshot of a copy, which is arranged outside the lock. If nothing was entered since the copy was made, `Hold::shown` gives it until
-    /// something is. If an allocation fails it is shown to nobody, and comes back as it is.
-    pub fn show<R: Wait>(
-        &self,
-        rt: &R,
-        seat: &mut Seat<J>,
-        copy: CopyToShow,
-    ) -> Result<Arc<Shown, Global>, Shown>
-        requires { (before : Sitting) × CopyAfter J.opening copy.entries before seat.old
-            (sight_of_copy resources copy.copied) }
-        ensures seat { seat.new ≡ seat.old }
-        ensures snapshot { MatchResult result
-            (λ shown. sight_in resources (arc_value shown) ≡ sight_of_copy resources copy.copied)
-            (λ own. sight_in resources own ≡ sight_of_copy resources copy.copied) }
-    {
-        let CopyToShow { copied, entries } = copy;
-        let shown = match Arc::new(self.alloc, Shown::new(copied.arrange())) {
-            Ok(shown) => shown,
-            Err(failed) => return Err(failed.value),
-        };
-        if let Ok(published) = Arc::try_clone(&shown) {
-            let mut held = self.hold_to_schedule(rt);
-            let before = held.publish(seat, published, entries);
-            drop(held);
-            drop(before);
-        }
-        Ok(shown)
     }
 
     /// Whether the journal is full. Once it is, it stays so.

@@ -1,18 +1,11 @@
-//! A copy of the cluster of which a snapshot is made for several threads (`CopyToShow`), that snapshot (`Shown`), and the last one (`ShownLast`).
+//! A snapshot that is shown to several threads (`Shown`), and the last one (`ShownLast`).
 ghost use Rattle.std.specs.Prelude.{◌≡◌};
 
 use cap_base::RESOURCES;
-use cap_copy::{ClusterCopy, Snapshot};
+use cap_copy::Snapshot;
 use std::alloc::Global;
 use std::marker::Model;
 use std::sync::Arc;
-
-/// A copy of the cluster of which a snapshot is made for several threads, and how many entries the journal had when it was copied.
-#[derive(Drop)]
-pub struct CopyToShow {
-    pub copied: ClusterCopy<RESOURCES, Global>,
-    pub entries: usize,
-}
 
 /// A snapshot that is shown to several threads. Contracts see the snapshot.
 pub struct Shown {
@@ -52,7 +45,7 @@ impl Shown {
     }
 }
 
-/// The last snapshot that was shown, and how many entries the journal had when the cluster was copied for it.
+/// The last snapshot that was shown, and how many entries the journal had when it was made.
 #[derive(Drop)]
 pub(crate) struct ShownLast {
     pub(crate) shown: Arc<Shown, Global>,

@@ -1,4 +1,4 @@
-//! Snapshots of a whole cluster (`snapshot_of`), and copies of one, of which snapshots are made (`copy_of`, in an arena `copy_in`).
+//! Snapshots of a whole cluster (`snapshot_of`), and copies of one in an arena, of which snapshots are made (`copy_in`).
 #![tactic(auto)]
 
 ghost use Rattle.std.specs.Prelude.{◌≤◌, IfOk};
@@ -24,25 +24,14 @@ pub fn snapshot_of(
     ensures { IfOk result (λ snapshot.
         ShowTheSame (sight_in resources snapshot) (sight_of cluster.now.flat)) }
 {
-    match copy_of(alloc, cluster) {
+    match copy_under(alloc, cluster) {
         Ok(copied) => Ok(copied.arrange()),
         Err(NoMemory) => Err(NoMemory),
     }
 }
 
-/// A copy of the cluster, which shows the same as the cluster and is yet to be arranged: no more than must be done while nobody may change
-/// the cluster. If an allocation fails there is none.
-pub fn copy_of(
-    alloc: Global,
-    cluster: &Cluster<RESOURCES>,
-) -> Result<ClusterCopy<RESOURCES, Global>, NoMemory>
-    ensures { IfOk result (λ copied.
-        ShowTheSame (sight_of_copy resources copied) (sight_of cluster.now.flat)) }
-{
-    copy_under(alloc, cluster)
-}
-
-/// The same copy in an arena.
+/// A copy of the cluster in an arena, which shows the same as the cluster and is yet to be arranged: no more than must be done while nobody
+/// may change the cluster. If an allocation fails there is none.
 pub fn copy_in<'a>(
     arena: &'a Bump,
     cluster: &Cluster<RESOURCES>,

@@ -1,19 +1,11 @@
 -- What a turn chooses and commits.
 use Rattle.cap_workers.proofs.Prelude.{◌≡◌, ℕ, Option, Result, Ok, Err, ap, refl, ◌∙◌, MatchResult, resources, NodeProposal, choice_from, Flat, Sight, Verdict, Seen, sight_in, Parts, sight_of_copy, same_choice, CommitAnswers, CommitsBack, CopyIs, CommitFault, Sitting, Chooses, IsCommitted, end_by}
 use Rattle.cap_model.specs.declared.proposal.Verdict.TheVariants as verdict
-use Rattle.cap_workers.specs.Worker.{IsSighted, sight_seen}
-use Rattle.cap_workers.specs.declared.worker.Sighted.{Sighted}
-use Rattle.cap_workers.specs.declared.worker.Sighted.TheVariants as sighted
 use Rattle.cap_shared.specs.declared.faults.CommitFault.TheVariants as fault
 
 -- the choice on what shows the cluster of a note is that of this cluster
 pub chosen_in : {opening : Flat resources} {old new : Sitting} (sight : Sight resources) {choice : Option NodeProposal} (start : ℕ) → CopyIs opening old new sight → choice ≡ choice_from sight start → Chooses opening start old new choice
-chosen_in sight start (es, (mid, replays, same, noted)) is = record { entries = es; cluster = mid; replays = replays; noted = noted; chosen = is ∙ same_choice _ _ same start }
-
--- the same on a snapshot that is shown, or on a copy
-pub chosen_sighted : {opening : Flat resources} {old new : Sitting} (seen : Sighted) {choice : Option NodeProposal} (start : ℕ) → IsSighted opening old new seen → choice ≡ choice_from (sight_seen seen) start → Chooses opening start old new choice
-chosen_sighted (sighted.Shown shown) start noted is = chosen_in (sight_seen (sighted.Shown shown)) start noted is
-chosen_sighted (sighted.Copied copy) start (es, count, noted) is = chosen_in (sight_seen (sighted.Copied copy)) start (es, noted) is
+chosen_in sight start (es, mid, replays, same, noted) is = record { entries = es; cluster = mid; replays = replays; noted = noted; chosen = is ∙ same_choice _ _ same start }
 
 -- the same on what is arranged of a copy
 pub chosen_on : {opening : Flat resources} {old new : Sitting} (copied : Parts) (snapshot : Seen) {choice : Option NodeProposal} (start : ℕ) → sight_in resources snapshot ≡ sight_of_copy resources copied → CopyIs opening old new (sight_of_copy resources copied) →

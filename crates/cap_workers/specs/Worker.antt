@@ -1,5 +1,4 @@
 -- What a turn of a worker does.
-use Rattle.std.specs.Arc.{arc_value}
 use Rattle.std.specs.Prelude.{◌≡◌, ◌⊎◌, ℕ, List, [], ◌∷◌, Option, Some, None, Result, Ok, Err, MatchResult}
 use Rattle.cap_base.specs.Limits.{resources}
 use Rattle.cap_model.specs.Admission.{NodeProposal}
@@ -7,13 +6,11 @@ use Rattle.cap_model.specs.Candidates.{choice_from}
 use Rattle.cap_model.specs.Flat.{Flat}
 use Rattle.cap_model.specs.declared.proposal.Verdict.{Verdict}
 use Rattle.cap_model.specs.declared.proposal.Verdict.TheVariants as verdict
-use Rattle.cap_model.specs.Sight.{Sight, sight_of}
-use Rattle.cap_copy.specs.Snapshot.{sight_in}
-use Rattle.cap_copy.specs.Sources.{sight_of_copy}
+use Rattle.cap_model.specs.Sight.{sight_of}
 use Rattle.cap_shared.specs.declared.faults.CommitFault.{CommitFault}
 use Rattle.cap_shared.specs.declared.faults.CommitFault.TheVariants as fault
 use Rattle.cap_shared.specs.declared.history.Sitting.{Sitting}
-use Rattle.cap_shared.specs.Calls.{CommitAnswers, CommitsBack, CopyAfter, CopyIs, HasMore}
+use Rattle.cap_shared.specs.Calls.{CommitAnswers, CommitsBack, HasMore}
 use Rattle.cap_shared.specs.Journal.{Replays}
 use Rattle.cap_shared.specs.declared.entry.Entry.{Entry}
 use Rattle.cap_shared.specs.declared.history.NotedAnswer.TheVariants as answer
@@ -24,8 +21,6 @@ use Rattle.cap_workers.specs.declared.gate.CommitOutcome.TheVariants as outcomes
 use Rattle.cap_workers.specs.declared.worker.TurnEnd.{TurnEnd}
 use Rattle.cap_workers.specs.declared.worker.TurnEnd.TheVariants as ends
 use Rattle.cap_workers.specs.declared.worker.OfferEnd.{OfferEnd}
-use Rattle.cap_workers.specs.declared.worker.Sighted.{Sighted}
-use Rattle.cap_workers.specs.declared.worker.Sighted.TheVariants as sighted
 use Rattle.cap_workers.specs.declared.worker.OfferEnd.TheVariants as offers
 
 -- one copy of the cluster is noted, and this is the choice on the cluster of that note, from the starting node
@@ -35,16 +30,6 @@ pub record Chooses (opening : Flat resources) (start : ℕ) (old new : Sitting) 
   pub replays : Replays opening entries cluster
   pub noted : HasMore old new (Noted entries answer.Copied ∷ [])
   pub chosen : choice ≡ choice_from (sight_of cluster) start
-
--- what a snapshot that is shown shows, or a copy
-abbrev pub sight_seen : Sighted → Sight resources
-sight_seen (sighted.Shown shown) = sight_in resources (arc_value shown)
-sight_seen (sighted.Copied copy) = sight_of_copy resources copy.copied
-
--- it is the cluster of a note, which has as many entries as a copy says
-abbrev pub IsSighted : Flat resources → Sitting → Sitting → Sighted → Type 0
-IsSighted opening old new (sighted.Shown shown) = CopyIs opening old new (sight_seen (sighted.Shown shown))
-IsSighted opening old new (sighted.Copied copy) = CopyAfter opening copy.entries old new (sight_seen (sighted.Copied copy))
 
 -- how a turn ends whose proposal came back
 abbrev pub end_by_fault : CommitFault → TurnEnd

@@ -67,8 +67,6 @@ pub struct Coordinator {
     busy: AtomicU64,
     /// How many of them propose on a snapshot that is shown to others, or have not committed yet what they proposed on one.
     proposing: AtomicU64,
-    /// How many of them make a snapshot of a copy, which is then shown to others.
-    arranging: AtomicU64,
     /// The committer's end of the lanes, while its thread runs. Who holds the cluster takes it for a while, and commits what it takes out of them.
     lanes: Mutex<Option<Committer>>,
     /// Where the committer's thread waits.
@@ -85,7 +83,6 @@ impl Coordinator {
             alone: Mutex::new(Alone),
             busy: AtomicU64::new(0),
             proposing: AtomicU64::new(0),
-            arranging: AtomicU64::new(0),
             lanes: Mutex::new(None),
             committer: Parker::new(),
             answers: [
@@ -129,16 +126,6 @@ impl Coordinator {
     /// Whether a worker does so.
     pub(crate) fn is_any_proposing(&self) -> bool {
         self.proposing.load(Ordering::SeqCst) > 0
-    }
-
-    /// A worker makes a snapshot of a copy, from now on until that is shown.
-    pub(crate) fn arranges(&self) -> OneMore<'_> {
-        OneMore::of(&self.arranging)
-    }
-
-    /// Whether a worker does so.
-    pub(crate) fn is_any_arranging(&self) -> bool {
-        self.arranging.load(Ordering::SeqCst) > 0
     }
 
     /// The committer's thread begins.

@@ -1,4 +1,5 @@
 //! A worker (`Worker`), and what it does in a turn: it copies, proposes, and commits or offers.
+ghost use Rattle.std.specs.Arc.{arc_value};
 ghost use Rattle.std.specs.Prelude.{◌≡◌, ◌+◌, ◌%◌, ◌^◌, MatchResult};
 ghost use Rattle.cap_base.specs.Limits.{resources};
 ghost use Rattle.cap_model.specs.Candidates.{choice_from};
@@ -6,8 +7,7 @@ ghost use Rattle.cap_copy.specs.Snapshot.{sight_in};
 ghost use Rattle.cap_copy.specs.Sources.{sight_of_copy};
 ghost use Rattle.cap_propose.specs.Sizes.{SnapshotFitsInMemory};
 ghost use Rattle.cap_shared.specs.Calls.{CopyIs};
-ghost use Rattle.cap_shared.specs.declared.history.Sitting.{Sitting};
-ghost use Rattle.cap_workers.specs.Worker.{Chooses, GoesOn, IsCommitted, IsOffer, IsPut, IsSighted, IsTurn, end_by, end_by_fault, sight_seen};
+ghost use Rattle.cap_workers.specs.Worker.{Chooses, GoesOn, IsCommitted, IsOffer, IsPut, IsTurn, end_by, end_by_fault};
 
 use crate::coordinator::{BATCH, Coordinator, OneMore, Outcomes};
 use crate::gate::{CommitOutcome, Gate, Point};
@@ -17,7 +17,7 @@ use cap_copy::{ClusterCopy, Snapshot};
 use cap_lanes::Putter;
 use cap_model::{Event, NoMemory, Proposal, Reason, Verdict};
 use cap_propose::propose;
-use cap_shared::{CommitFault, CopyToShow, Hold, Naming, Seat, Shared, Shown};
+use cap_shared::{CommitFault, Hold, Naming, Seat, Shared, Shown};
 use std::alloc::{Allocator, Global};
 use std::sync::{Arc, Wait};
 use std::thread::yield_now;
@@ -93,8 +93,6 @@ pub(crate) struct Seen<'a> {
     pub entries: usize,
     /// The worker, among those to which snapshots are shown.
     pub beside: Option<OneMore<'a>>,
-    /// The worker, among those that make such a snapshot, until it is shown.
-    pub arranging: Option<OneMore<'a>>,
 }
 
 /// A turn that has ended, and the next, which has begun.
@@ -369,7 +367,6 @@ fn copy<'a, J: Naming>(
     let seen = Seen {
         entries: held.entries(),
         beside: None,
-        arranging: None,
     };
     (copied, seen)
 }
@@ -387,96 +384,53 @@ fn choose_beside<'a, J: Naming, R: Wait, G: Gate>(
     ensures { MatchResult result.0 (Chooses J.opening start seat.old seat.new)
         (λ _. seat.new ≡ seat.old) }
 {
-    let (sighted, mut seen) = await_shown(rt, shared, seat, coordinator);
-    let Ok(sighted) = sighted else {
+    let (shown, seen) = await_shown(rt, shared, seat, coordinator);
+    let Ok(shown) = shown else {
         return (Err(NoMemory), seen);
     };
-    let arranging = seen.arranging.take();
-    let choice = choose_sighted(rt, shared, seat, gate, sighted, arranging, worker, start);
+    let choice = propose_on(shown.snapshot(), gate, worker, start);
     (Ok(choice), seen)
 }
 
-/// What a worker proposes on a snapshot that is shown, or on the one that it makes of a copy and shows to others.
-fn choose_sighted<J: Naming, R: Wait, G: Gate>(
-    rt: &R,
-    shared: &Shared<J>,
-    seat: &mut Seat<J>,
-    gate: &G,
-    sighted: Sighted,
-    arranging: Option<OneMore<'_>>,
-    worker: u32,
-    start: u32,
-) -> Option<Proposal<RESOURCES>>
-    requires { (before : Sitting) × IsSighted J.opening before seat.old sighted }
-    ensures choice { result ≡ choice_from (sight_seen sighted) start }
-    ensures seat { seat.new ≡ seat.old }
-{
-    match sighted {
-        Sighted::Shown(shown) => propose_on(shown.snapshot(), gate, worker, start),
-        Sighted::Copied(copy) => {
-            let shown = shared.show(rt, seat, copy);
-            drop(arranging);
-            match shown {
-                Ok(shown) => propose_on(shown.snapshot(), gate, worker, start),
-                Err(own) => propose_on(own.snapshot(), gate, worker, start),
-            }
-        }
-    }
-}
-
-/// What a worker has of the cluster that takes turns with others at the same time.
-#[derive(Drop)]
-pub enum Sighted {
-    /// The snapshot that is shown.
-    Shown(Arc<Shown, Global>),
-    /// A copy, of which the worker makes a snapshot for all.
-    Copied(CopyToShow),
-}
-
-/// The snapshot that is shown, or a copy for a new one once no worker is to commit what it proposed on the last, or after so many looks: so workers
-/// that take turns at the same time copy the cluster once for all of them.
+/// The snapshot that is shown, or a new one once no worker is to commit what it proposed on the last, or after so many looks: so workers that
+/// take turns at the same time copy the cluster once for all of them.
 fn await_shown<'a, J: Naming, R: Wait>(
     rt: &R,
     shared: &Shared<J>,
     seat: &mut Seat<J>,
     coordinator: &'a Coordinator,
-) -> (Result<Sighted, NoMemory>, Seen<'a>)
-    ensures { MatchResult result.0 (IsSighted J.opening seat.old seat.new)
+) -> (Result<Arc<Shown, Global>, NoMemory>, Seen<'a>)
+    ensures { MatchResult result.0
+        (λ shown. CopyIs J.opening seat.old seat.new (sight_in resources (arc_value shown)))
         (λ _. seat.new ≡ seat.old) }
 {
     for _ in 0..LOOKS {
-        if !coordinator.is_any_arranging() {
-            let mut held = shared.hold_to_schedule(rt);
-            if let Some(shown) = held.shown(seat) {
-                return (Ok(Sighted::Shown(shown)), seen_beside(&held, coordinator));
-            }
-            if !coordinator.is_any_proposing() {
-                return copy_to_show(held, seat, coordinator);
-            }
-            drop(held);
+        let mut held = shared.hold_to_schedule(rt);
+        if let Some(shown) = held.shown(seat) {
+            return (Ok(shown), seen_beside(&held, coordinator));
         }
+        if !coordinator.is_any_proposing() {
+            return show(held, seat, coordinator);
+        }
+        drop(held);
         yield_now();
     }
-    copy_to_show(shared.hold_to_schedule(rt), seat, coordinator)
+    show(shared.hold_to_schedule(rt), seat, coordinator)
 }
 
-/// Copies the cluster, which is held, for a snapshot that is shown to several, and gives the cluster back.
-fn copy_to_show<'a, J: Naming>(
+/// Shows a snapshot of the cluster, which is held, and gives the cluster back.
+fn show<'a, J: Naming>(
     held: Hold<'_, J>,
     seat: &mut Seat<J>,
     coordinator: &'a Coordinator,
-) -> (Result<Sighted, NoMemory>, Seen<'a>)
-    ensures { MatchResult result.0 (IsSighted J.opening seat.old seat.new)
+) -> (Result<Arc<Shown, Global>, NoMemory>, Seen<'a>)
+    ensures { MatchResult result.0
+        (λ shown. CopyIs J.opening seat.old seat.new (sight_in resources (arc_value shown)))
         (λ _. seat.new ≡ seat.old) }
 {
     let mut held = held;
-    let copied = held.copy_to_show(seat);
-    let mut seen = seen_beside(&held, coordinator);
-    let Ok(copy) = copied else {
-        return (Err(NoMemory), seen);
-    };
-    seen.arranging = Some(coordinator.arranges());
-    (Ok(Sighted::Copied(copy)), seen)
+    let shown = held.show(seat);
+    (shown, seen_beside(&held, coordinator))
 }
 
 /// What a worker sees to which a snapshot is shown while it holds the cluster.
@@ -484,7 +438,6 @@ fn seen_beside<'a, J: Naming>(held: &Hold<'_, J>, coordinator: &'a Coordinator) 
     Seen {
         entries: held.entries(),
         beside: Some(coordinator.proposes()),
-        arranging: None,
     }
 }
 

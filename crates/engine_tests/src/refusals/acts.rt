@@ -190,15 +190,11 @@ fn offer<J: Naming, H: Wait>(
 }
 
 fn show<J: Naming, H: Wait>(rt: &H, shared: &Shared<J>, seat: &mut Seat<J>) -> ActEnd {
-    let copied = shared.hold_to_schedule(rt).copy_to_show(seat);
-    let Ok(copy) = copied else {
+    let shown = shared.hold_to_schedule(rt).show(seat);
+    let Ok(shown) = shown else {
         return ActEnd::Refused;
     };
-    let choice = match shared.show(rt, seat, copy) {
-        Ok(shown) => propose(shown.snapshot(), 0),
-        Err(own) => propose(own.snapshot(), 0),
-    };
-    match choice {
+    match propose(shown.snapshot(), 0) {
         Some(proposal) if is_grant(&proposal) => ActEnd::Made,
         _ => ActEnd::Other,
     }

@@ -27,22 +27,10 @@ fn owners(shown: &Option<Arc<Shown, Global>>) -> Option<usize> {
     Some(Arc::strong_count(shown.as_ref()?))
 }
 
-/// Copies the cluster and shows the snapshot of the copy.
-fn show<J: Naming, H: Wait>(
-    rt: &H,
-    shared: &Shared<J>,
-    seat: &mut Seat<J>,
-) -> Option<Arc<Shown, Global>> {
-    let Ok(copy) = shared.hold_to_schedule(rt).copy_to_show(seat) else {
-        return None;
-    };
-    shared.show(rt, seat, copy).ok()
-}
-
 impl cap_testing::Work for Showing {
     fn work<J: Naming, H: Wait>(&self, rt: &H, shared: &Shared<J>, mut seat: Seat<J>) -> Seat<J> {
         let before = shared.hold_to_schedule(rt).shown(&mut seat);
-        let made = show(rt, shared, &mut seat);
+        let made = shared.hold_to_schedule(rt).show(&mut seat).ok();
         let again = shared.hold_to_schedule(rt).shown(&mut seat);
         let before_last = owners(&made);
         let counts = Counts {
@@ -52,7 +40,7 @@ impl cap_testing::Work for Showing {
         let work = Work::Steps(&[Step::RegisterNode(b"n1")]);
         seat = worked(rt, self.alloc, shared, seat, work, &counts);
         let after = shared.hold_to_schedule(rt).shown(&mut seat);
-        let anew = show(rt, shared, &mut seat);
+        let anew = shared.hold_to_schedule(rt).show(&mut seat).ok();
         let rows = [
             nodes(&before),
             nodes(&made),

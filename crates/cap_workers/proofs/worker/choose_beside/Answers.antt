@@ -1,14 +1,7 @@
-use Rattle.std.proofs.Common.{subst, sym}
-use Rattle.cap_workers.proofs.Prelude.{Sitting}
-use Rattle.cap_workers.specs.Worker.{IsSighted}
-use Rattle.cap_workers.proofs.Turning.{chosen_sighted}
+use Rattle.std.specs.Arc.{arc_value}
+use Rattle.cap_workers.proofs.Prelude.{resources, sight_in}
+use Rattle.cap_workers.proofs.Turning.{chosen_in}
 use Rattle.cap_workers.proofs.worker.choose_beside.Goals as goal
 
-pub choose_sighted-choice-requires : goal.choose_sighted-choice-requires
-choose_sighted-choice-requires g c = (c.args.seat.now, rw c.in-Ok.is at c.await_shown-sighted.ensures)
-
 pub returns : goal.returns
-returns g c =
-    chosen_sighted c.in-Ok.sighted c.args.start
-    (subst (λ (s : Sitting). IsSighted g.J.Naming.opening c.args.seat.now s c.in-Ok.sighted) (sym c.choose_sighted-choice.ensures.seat) (rw c.in-Ok.is at c.await_shown-sighted.ensures))
-    c.choose_sighted-choice.ensures.choice
+returns g c = chosen_in (sight_in resources (arc_value c.in-Ok.shown)) c.args.start (rw c.in-Ok.is at c.await_shown-shown.ensures) (rw (← c.deref.ensures, ← c.snapshot.ensures) c.propose_on-choice.ensures)

@@ -1,7 +1,7 @@
 use Rattle.std.proofs.Common.{refl}
 use Rattle.cap_shared.specs.declared.history.NotedAnswer.TheVariants as answer
 use Rattle.cap_shared.proofs.Pasts.{noted_seat}
-use Rattle.cap_shared.proofs.desk.Desk.copy_to_show.Goals as goal
+use Rattle.cap_shared.proofs.desk.Desk.show.Goals as goal
 
 pub invariant_of-seat : goal.invariant_of-seat
 invariant_of-seat g c =
