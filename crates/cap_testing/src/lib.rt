@@ -1,14 +1,17 @@
-//! What tests of several crates need: settings and the cluster that they open, changes of a tree, requests as frames, an epoch.
+//! What tests of several crates need: settings and the cluster that they open, changes of a tree, requests as frames, an epoch, and a count
+//! that threads wait for.
 //! The spelling of frames is written by hand and shares no code with the engine.
 #![tactic(auto)]
 
 mod epochs;
+mod mark;
 mod settings;
 mod spelling;
 mod table;
 mod tree;
 
 pub use epochs::{Work, epoch};
+pub use mark::Mark;
 pub use settings::{NESTED_QUEUES, SMALL_QUEUES, TWO_QUEUES, cluster, cluster_after, make_call};
 pub use spelling::{Call, WantedContainers, frame};
 pub use table::first;

@@ -343,7 +343,9 @@ fn copy_users<const K: usize, A: Allocator, B: Allocator + Copy>(
     Ok(copy)
 }
 
-/// The row of a user, none where the user has none. Of a few users each is looked at, which costs less than a hash.
+/// The row of a user, none where the user has none. Of a few users each is looked at, which costs less than a hash. It is put in place,
+/// since a copy of the cluster looks once for each application that waits.
+#[inline(always)]
 fn row_of<'a, const K: usize, A: Allocator>(
     users: &'a Users<K, A>,
     user: &ShortText,

@@ -1,8 +1,9 @@
 //! One connection that would hold up all others, if a change of epochs waited for it.
 use crate::client::{BAD_LENGTH, connect, is_answered, is_taken, receive, send};
-use crate::gates::{GateOf, Mark};
+use crate::gates::GateOf;
 use crate::side::{ONE_QUEUE, Outcome, closed_by, listen, served};
 use cap_server::Sizes;
+use cap_testing::Mark;
 use std::alloc::Global;
 use std::io;
 use std::net::{Net, TcpListener, TcpStream};

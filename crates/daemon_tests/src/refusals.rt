@@ -1,9 +1,9 @@
 //! The daemon where memory is short: all of it is taken before the daemon begins, but for what its threads need until a test takes the rest.
 use crate::client::{connect, is_answered, send};
-use crate::gates::{GateOf, HoldingOnce, Mark};
+use crate::gates::{GateOf, HoldingOnce};
 use crate::side::{Client, ends};
 use cap_server::Sizes;
-use cap_testing::{Call, frame};
+use cap_testing::{Call, Mark, frame};
 use memory_testing::Hoard;
 use std::alloc::Global;
 use std::io::{self, Read};

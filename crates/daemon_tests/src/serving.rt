@@ -3,10 +3,10 @@
 use crate::client::{
     ASK, are_answered, are_answers, ask_last, call, connect, is_answered, is_taken, receive, send,
 };
-use crate::gates::{GateOf, Holding, Mark, Meeting};
+use crate::gates::{GateOf, Holding, Meeting};
 use crate::side::{Client, ends};
 use cap_server::Sizes;
-use cap_testing::Call;
+use cap_testing::{Call, Mark};
 use std::alloc::Global;
 use std::io;
 use std::net::{Net, TcpListener, TcpStream};

@@ -1,5 +1,6 @@
 //! Workers, and sessions that are served from a shared cluster, over readers and writers in memory.
 mod epochs;
+mod in_step;
 mod offering;
 mod serving;
 mod sessions;

@@ -15,7 +15,7 @@ use std::test::*;
 use std::thread::Threads;
 
 /// So many nodes, one or two, and application 1 of `u1` in `root.a`, which asks for so many containers of (1024, 1).
-fn filled(alloc: Global, nodes: usize, count: u32) -> Option<Cluster<RESOURCES>> {
+pub fn filled(alloc: Global, nodes: usize, count: u32) -> Option<Cluster<RESOURCES>> {
     let asks = [WantedContainers {
         priority: 1,
         request: 0,
