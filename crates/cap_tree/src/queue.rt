@@ -205,6 +205,7 @@ impl<const K: usize, A: Allocator> Queue<K, A> {
     }
 
     /// What a user uses in it, in MiB, vcores and GPUs: 0 of each where the user has no row.
+    #[inline(always)]
     pub fn user_use(&self, user: &ShortText) -> Sum<K>
         ensures { result ≡ use_of K (user_row user.now self.now.users) }
     {
@@ -343,8 +344,7 @@ fn copy_users<const K: usize, A: Allocator, B: Allocator + Copy>(
     Ok(copy)
 }
 
-/// The row of a user, none where the user has none. Of a few users each is looked at, which costs less than a hash. It is put in place,
-/// since a copy of the cluster looks once for each application that waits.
+/// The row of a user, none where the user has none. Of a few users each is looked at, which costs less than a hash.
 #[inline(always)]
 fn row_of<'a, const K: usize, A: Allocator>(
     users: &'a Users<K, A>,

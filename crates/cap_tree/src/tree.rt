@@ -362,7 +362,9 @@ impl<const K: usize, A: Allocator + Copy> QueueTree<K, A> {
         self.root.get(path.as_slice()).used()
     }
 
-    /// What a user uses in the leaf, in MiB, vcores and GPUs: 0 of each where the user has no row.
+    /// What a user uses in the leaf, in MiB, vcores and GPUs: 0 of each where the user has no row. A copy of the cluster asks for each
+    /// application that waits.
+    #[inline(always)]
     pub fn user_use(&self, path: &Path<A>, user: &ShortText) -> Sum<K>
         requires { IsPosition self.now path.now.items }
         ensures { result ≡ use_of K (user_row_at path.now.items user.now self.now) }
