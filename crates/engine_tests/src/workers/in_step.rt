@@ -14,20 +14,15 @@ use std::time::{Clock, Duration};
 const SECOND_COPY: u64 = 4;
 
 /// Workers 0 and 1 schedule in step: each waits at each point of its turns until the other has come to as many. Where both have copied in their
-/// second turn they are held until a third seat has looked what the cluster shows, and then the epoch ends.
+/// second turn they are held until the epoch is to end.
 #[derive(Drop)]
-struct InStep<'a, R: Wait + Clock> {
-    rt: &'a R,
-    alloc: Global,
-    coordinator: Coordinator,
+struct Steps {
     /// How many points each has come to.
     points: [Mark; 2],
     ended: Mark,
-    /// How many have the snapshot that is shown then, the third seat among them.
-    owners: Mutex<Option<usize>>,
 }
 
-impl<R: Wait + Clock> Gate for InStep<'_, R> {
+impl Gate for Steps {
     fn at(&self, worker: u32, _point: Point) {
         let [first, second] = &self.points;
         let (own, other) = match worker {
@@ -42,36 +37,47 @@ impl<R: Wait + Clock> Gate for InStep<'_, R> {
     }
 }
 
-impl<R: Wait + Clock> StopSignal for InStep<'_, R> {
-    fn is_raised<H: Wait>(&self, _rt: &H) -> bool {
+impl StopSignal for Steps {
+    fn is_raised<R: Wait>(&self, _rt: &R) -> bool {
         self.ended.is_reached(1)
     }
 
-    fn wait<H: Wait + Clock>(&self, rt: &H, milliseconds: u64) {
+    fn wait<R: Wait + Clock>(&self, rt: &R, milliseconds: u64) {
         sleep(rt, Duration::from_millis(milliseconds));
     }
+}
+
+/// Two seats schedule in step. Where both have copied in their second turn, a third looks what the cluster shows, and the epoch ends.
+#[derive(Drop)]
+struct InStep<'a, R: Wait + Clock> {
+    rt: &'a R,
+    alloc: Global,
+    coordinator: Coordinator,
+    steps: Steps,
+    /// How many have the snapshot that is shown then, the third seat among them.
+    owners: Mutex<Option<usize>>,
 }
 
 impl<R: Wait + Clock> InStep<'_, R> {
     /// A worker takes turns until the epoch ends.
     fn schedule<J: Naming>(&self, shared: &Shared<J>, seat: &mut Seat<J>, number: u32) {
-        let (alloc, coordinator) = (self.alloc, &self.coordinator);
+        let (coordinator, steps) = (&self.coordinator, &self.steps);
         let mut worker = Worker::new(number);
         schedule(
             self.rt,
-            alloc,
+            self.alloc,
             shared,
             seat,
             coordinator,
-            self,
-            self,
+            steps,
+            steps,
             &mut worker,
         );
     }
 
     /// How many have the snapshot that is shown once both workers have copied in their second turn.
     fn look<J: Naming>(&self, shared: &Shared<J>, seat: &mut Seat<J>) -> Option<usize> {
-        if !self.points.iter().all(|it| it.awaits(SECOND_COPY)) {
+        if !self.steps.points.iter().all(|it| it.awaits(SECOND_COPY)) {
             return None;
         }
         let shown = shared.hold_to_schedule(self.rt).shown(seat)?;
@@ -88,7 +94,7 @@ impl<R: Wait + Clock> Work for InStep<'_, R> {
             return seat;
         }
         *self.owners.lock(self.rt) = self.look(shared, &mut seat);
-        self.ended.reach(1);
+        self.steps.ended.reach(1);
         seat
     }
 
@@ -102,8 +108,10 @@ fn shared_by<H: Threads + Wait + Clock + Sync>(rt: &H, alloc: Global) -> Option<
         rt,
         alloc,
         coordinator: Coordinator::new(),
-        points: [Mark::new(), Mark::new()],
-        ended: Mark::new(),
+        steps: Steps {
+            points: [Mark::new(), Mark::new()],
+            ended: Mark::new(),
+        },
         owners: Mutex::new(None),
     };
     let closed = epoch(rt, alloc, filled(alloc, 2, 4)?, 3, 100, &in_step)?;
