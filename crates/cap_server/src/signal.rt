@@ -83,9 +83,8 @@ impl StopSignal for EndSignal {
         self.is_over()
     }
 
-    fn wait<R: Wait + Clock>(&self, rt: &R, milliseconds: u64) {
+    fn wait<R: Wait + Clock>(&self, rt: &R, pause: Duration) {
         let idle = self.idle.lock(rt);
-        let pause = Duration::from_millis(milliseconds);
         let _waited = self
             .woken
             .wait_timeout_while(rt, idle, pause, |idle| !idle.is_over);

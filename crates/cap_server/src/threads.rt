@@ -13,7 +13,7 @@ use std::alloc::Global;
 use std::net::{Net, TcpStream};
 use std::sync::Wait;
 use std::thread::{self, Builder, JoinHandle, Scope, SpawnError, Threads};
-use std::time::Clock;
+use std::time::{Clock, Duration};
 
 /// How long the thread of the daemon waits at most where nothing happens, in milliseconds.
 const LOOK_AGAIN: u64 = 50;
@@ -197,7 +197,9 @@ impl<
                 LOOK_AGAIN
             };
             if acceptor.wait(pause).is_err() {
-                self.state.signal.wait(self.rt, pause);
+                self.state
+                    .signal
+                    .wait(self.rt, Duration::from_millis(pause));
             }
             self.begin_ready(running, acceptor);
             self.begin_waiting(running);

@@ -200,6 +200,11 @@ impl<J: Naming> Shared<J> {
         self.held(desk, None)
     }
 
+    /// Whether many calls wait for the cluster: 4 or more, of all threads. More or fewer may wait by the time that this returns.
+    pub fn has_many_calls(&self) -> bool {
+        self.turnstile.has_many_calls()
+    }
+
     /// The cluster, held.
     fn held<'a>(
         &'a self,

@@ -6,7 +6,7 @@ use std::thread::yield_now;
 /// How often a thread that finds a place or the lock taken looks again before it sleeps until it is woken.
 const LOOKS: u32 = 100;
 
-/// Where so many calls wait, a thread that schedules sleeps at once.
+/// Where so many calls wait, they are many: a thread that schedules sleeps at once.
 const MANY_CALLS: u64 = 4;
 
 /// How many calls take the lock at most while a thread that schedules waits for it.
@@ -54,6 +54,11 @@ impl Turnstile {
         place
     }
 
+    /// Whether many calls wait.
+    pub(crate) fn has_many_calls(&self) -> bool {
+        self.calls.load(Ordering::SeqCst) >= MANY_CALLS
+    }
+
     /// A thread that calls has taken the lock.
     pub(crate) fn has_entered(&self) {
         self.calls.fetch_sub(1, Ordering::SeqCst);
@@ -89,7 +94,7 @@ impl Turnstile {
             if let Some(guard) = lock.try_lock() {
                 return guard;
             }
-            if self.calls.load(Ordering::SeqCst) >= MANY_CALLS {
+            if self.has_many_calls() {
                 break;
             }
             yield_now();

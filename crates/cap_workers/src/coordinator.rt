@@ -5,7 +5,7 @@ use std::sync::atomic::{AtomicU64, Ordering};
 use std::sync::{Mutex, MutexGuard, Wait};
 use std::thread::Parker;
 
-/// What the worker has that looks whether there is something to do.
+/// What the worker has that looks whether there is something to do, while the others that found nothing wait for it.
 #[derive(Drop)]
 pub(crate) struct Watch;
 
@@ -59,7 +59,9 @@ impl Mailbox {
 /// What the workers and the committer of an epoch share beside the cluster.
 #[derive(Drop)]
 pub struct Coordinator {
-    /// One worker at a time looks whether there is something to do. The others that found nothing wait for it.
+    /// How many workers schedule.
+    workers: AtomicU64,
+    /// One worker at a time looks whether there is something to do. The others that found nothing wait until it has found much.
     watch: Mutex<Watch>,
     /// Workers whose proposals were rejected take turns one at a time.
     alone: Mutex<Alone>,
@@ -79,6 +81,7 @@ impl Coordinator {
     /// Before the first turn of an epoch.
     pub fn new() -> Coordinator {
         Coordinator {
+            workers: AtomicU64::new(0),
             watch: Mutex::new(Watch),
             alone: Mutex::new(Alone),
             busy: AtomicU64::new(0),
@@ -98,9 +101,24 @@ impl Coordinator {
         }
     }
 
-    /// Waits until no other worker looks whether there is something to do.
-    pub(crate) fn watch<R: Wait>(&self, rt: &R) -> MutexGuard<'_, Watch> {
-        self.watch.lock(rt)
+    /// A worker schedules from now on.
+    pub(crate) fn schedules(&self) -> OneMore<'_> {
+        OneMore::of(&self.workers)
+    }
+
+    /// How many workers schedule.
+    pub(crate) fn workers(&self) -> u64 {
+        self.workers.load(Ordering::SeqCst)
+    }
+
+    /// The worker looks whether there is something to do, unless another does.
+    pub(crate) fn try_watch(&self) -> Option<MutexGuard<'_, Watch>> {
+        self.watch.try_lock()
+    }
+
+    /// Waits until the worker that looks whether there is something to do has found much, or the epoch ends.
+    pub(crate) fn await_much<R: Wait>(&self, rt: &R) {
+        drop(self.watch.lock(rt));
     }
 
     /// Waits until no other worker takes turns alone.

@@ -4,6 +4,7 @@
 mod batches;
 mod coordinator;
 mod gate;
+mod pause;
 mod scheduling;
 mod sessions;
 mod worker;

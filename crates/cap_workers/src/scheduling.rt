@@ -1,6 +1,7 @@
 //! What a worker and the committer do in an epoch (`schedule`, `schedule_by_lane`, `commit_all`).
 use crate::coordinator::{BATCH, Coordinator, LaneSide, OneMore, Outcomes};
 use crate::gate::{CommitOutcome, Gate};
+use crate::pause::Pause;
 use crate::worker::{Begun, Next, Notices, OfferEnd, TurnEnd, Worker, put};
 use bumpalo::Bump;
 use cap_base::RESOURCES;
@@ -9,10 +10,7 @@ use cap_model::{NoMemory, Proposal};
 use cap_shared::{Hold, Naming, Seat, Shared};
 use std::alloc::Global;
 use std::sync::Wait;
-use std::time::Clock;
-
-/// How long a worker that finds nothing to do waits at most, in milliseconds.
-const PAUSE_MAX: u64 = 10;
+use std::time::{Clock, Duration};
 
 /// How many turns a worker takes one at a time with the others whose proposals were rejected, after one of its own was.
 const CAREFUL_TURNS: u32 = 16;
@@ -20,13 +18,16 @@ const CAREFUL_TURNS: u32 = 16;
 /// How many turns a worker takes before it looks again whether others wait.
 const TURNS_AT_ONCE: u32 = 1024;
 
+/// How many turns in a row a worker that looks for something to do takes before the others that found nothing go on as well.
+const TURNS_ALONE: u32 = 64;
+
 /// Ends an epoch, and keeps those that have nothing to do until then.
 pub trait StopSignal {
     /// Whether those that schedule are to leave the epoch. Once it is raised it stays so until the epoch has ended.
     fn is_raised<R: Wait>(&self, rt: &R) -> bool;
 
-    /// Waits for so many milliseconds, or until the signal is raised.
-    fn wait<R: Wait + Clock>(&self, rt: &R, milliseconds: u64);
+    /// Waits for so long, or until the signal is raised.
+    fn wait<R: Wait + Clock>(&self, rt: &R, pause: Duration);
 }
 
 /// Why a worker's turns have ended.
@@ -44,21 +45,13 @@ enum Stop {
     NoMemory,
 }
 
-/// How long a worker waits, and how it goes on.
-#[derive(Clone, Copy)]
-struct Pace {
-    pause: u64,
-    /// How many entries the journal had when the worker last found nothing to propose.
-    idle_at: Option<usize>,
-    /// The turns that the worker takes next.
-    next: Stretch,
-}
-
 /// How many turns a worker takes next, and how many workers take theirs with it.
 #[derive(Clone, Copy)]
 enum Stretch {
     /// All that do so too, at once.
     Free,
+    /// One that looks for something to do, beside those that take turns already.
+    Watching,
     /// Those that take so many one at a time.
     Careful(u32),
 }
@@ -68,51 +61,9 @@ impl Stretch {
     fn turns(self) -> u32 {
         match self {
             Stretch::Free => TURNS_AT_ONCE,
+            Stretch::Watching => TURNS_ALONE,
             Stretch::Careful(turns) => turns,
         }
-    }
-}
-
-impl Pace {
-    /// Of a worker that begins.
-    fn new() -> Pace {
-        Pace::going_on(Stretch::Free)
-    }
-
-    /// Of a worker that has found something to do.
-    fn going_on(next: Stretch) -> Pace {
-        Pace {
-            pause: 1,
-            idle_at: None,
-            next,
-        }
-    }
-
-    /// Waits until the signal is raised, or for a while, and twice as long the next time.
-    fn wait<R: Wait + Clock, S: StopSignal>(&mut self, rt: &R, signal: &S) {
-        signal.wait(rt, self.pause);
-        self.pause = self.pause.saturating_mul(2).min(PAUSE_MAX);
-    }
-
-    /// After turns that have ended so. Returns whether the worker goes on.
-    fn after<R: Wait + Clock, S: StopSignal>(&mut self, rt: &R, signal: &S, stop: Stop) -> bool {
-        match stop {
-            Stop::Sealed => return false,
-            Stop::Over => *self = Pace::new(),
-            Stop::Rejected => *self = Pace::going_on(Stretch::Careful(CAREFUL_TURNS)),
-            Stop::Idle { entries, at_once } => {
-                if !at_once {
-                    self.pause = 1;
-                }
-                self.idle_at = Some(entries);
-                self.wait(rt, signal);
-            }
-            Stop::NoMemory => {
-                self.idle_at = None;
-                self.wait(rt, signal);
-            }
-        }
-        true
     }
 }
 
@@ -148,7 +99,13 @@ impl<'a> Room<'a> {
         }
     }
 
-    /// The worker begins a turn: on a copy of its own where no other takes turns, and else on a snapshot that is shown to all of them.
+    /// Whether the worker copies the cluster for itself: where no other takes turns, and where many calls wait. With as many threads as there
+    /// are then, one that waits for what the others are to commit waits until each of them has got a processor.
+    fn copies<J: Naming>(&self, shared: &Shared<J>) -> bool {
+        self.coordinator.is_single() || shared.has_many_calls()
+    }
+
+    /// The worker begins a turn: on a copy of its own, or on a snapshot that is shown to all that take turns.
     fn begin<J: Naming, R: Wait, G: Gate>(
         &mut self,
         rt: &R,
@@ -157,7 +114,7 @@ impl<'a> Room<'a> {
         gate: &G,
         worker: &mut Worker,
     ) -> Begun<'a> {
-        if self.coordinator.is_single() {
+        if self.copies(shared) {
             return worker.begin(rt, shared, seat, &mut self.arena, gate);
         }
         worker.begin_beside(rt, shared, seat, gate, self.coordinator)
@@ -207,8 +164,8 @@ fn stop_of(end: &TurnEnd) -> Option<Stop> {
 }
 
 impl<'a> Direct<'a> {
-    /// Commits what a turn proposes: how the turn ends, and the next where it has begun in the same hold of the cluster, as it does where no
-    /// other worker takes turns.
+    /// Commits what a turn proposes: how the turn ends, and the next where it has begun in the same hold of the cluster, as it does where the
+    /// worker copies the cluster for itself.
     fn commit<J: Naming, R: Wait, G: Gate>(
         &mut self,
         rt: &R,
@@ -218,7 +175,7 @@ impl<'a> Direct<'a> {
         worker: &mut Worker,
         proposal: Proposal<RESOURCES>,
     ) -> (TurnEnd, Option<Begun<'a>>) {
-        if !self.room.coordinator.is_single() {
+        if !self.room.copies(shared) {
             return (worker.commit(rt, shared, seat, gate, proposal), None);
         }
         let arena = &mut self.room.arena;
@@ -272,8 +229,8 @@ struct ByLane<'a> {
 }
 
 impl<'a> ByLane<'a> {
-    /// The answer to what the worker has put, and its next turn, if that has begun in the same hold of the cluster, as it does where no other takes
-    /// turns. Who holds the cluster commits all that waits, so this waits at most until another that did so tells of it, or until the committer begins.
+    /// The answer to what the worker has put, and its next turn, if that has begun in the same hold of the cluster, as it does where the worker
+    /// copies the cluster for itself. Who holds the cluster commits all that waits, so this waits at most until another that did so tells of it, or until the committer begins.
     fn settle<J: Naming, R: Wait, G: Gate>(
         &mut self,
         rt: &R,
@@ -290,7 +247,7 @@ impl<'a> ByLane<'a> {
             return (self.side.await_answer(rt), None);
         };
         let outcomes = committed.outcomes;
-        if !coordinator.is_single() {
+        if !self.room.copies(shared) {
             drop(held);
             coordinator.notify(rt, gate, &outcomes);
             return (self.side.await_answer(rt), None);
@@ -354,34 +311,123 @@ fn schedule_by<J: Naming, R: Wait + Clock, G: Gate, S: StopSignal, T: Turns>(
     worker: &mut Worker,
     turns: &mut T,
 ) {
-    let mut pace = Pace::new();
+    let _scheduling = coordinator.schedules();
+    let mut next = Stretch::Free;
+    let mut pause = Pause::first(1);
     for _ in rt.forever() {
         if signal.is_raised(rt) || shared.is_full(rt) {
             return;
         }
-        if let Some(entries) = pace.idle_at {
-            let _watch = coordinator.watch(rt);
-            if shared.entries(rt) == entries {
-                pace.wait(rt, signal);
-                continue;
-            }
+        let mut stop = take(
+            rt,
+            shared,
+            seat,
+            coordinator,
+            signal,
+            gate,
+            worker,
+            turns,
+            next,
+        );
+        if let Stop::Idle { entries, .. } = stop {
+            stop = watch(
+                rt,
+                shared,
+                seat,
+                coordinator,
+                signal,
+                gate,
+                worker,
+                turns,
+                entries,
+            );
         }
-        let stretch = pace.next;
-        let place = match stretch {
-            Stretch::Free => None,
-            Stretch::Careful(_) => Some(coordinator.alone(rt)),
-        };
-        if place.is_some() && signal.is_raised(rt) {
-            return;
-        }
-        let busy = coordinator.takes_turns();
-        let stop = turns.take(rt, shared, seat, signal, gate, worker, stretch);
-        drop(busy);
-        drop(place);
-        if !pace.after(rt, signal, stop) {
-            return;
+        match stop {
+            Stop::Sealed => return,
+            Stop::NoMemory => pause.wait(rt, signal),
+            Stop::Rejected => (next, pause) = (Stretch::Careful(CAREFUL_TURNS), Pause::first(1)),
+            Stop::Over | Stop::Idle { .. } => (next, pause) = (Stretch::Free, Pause::first(1)),
         }
     }
+}
+
+/// The turns of a stretch, one at a time with others that are careful too.
+fn take<J: Naming, R: Wait + Clock, G: Gate, S: StopSignal, T: Turns>(
+    rt: &R,
+    shared: &Shared<J>,
+    seat: &mut Seat<J>,
+    coordinator: &Coordinator,
+    signal: &S,
+    gate: &G,
+    worker: &mut Worker,
+    turns: &mut T,
+    stretch: Stretch,
+) -> Stop {
+    let place = match stretch {
+        Stretch::Free | Stretch::Watching => None,
+        Stretch::Careful(_) => Some(coordinator.alone(rt)),
+    };
+    if place.is_some() && signal.is_raised(rt) {
+        return Stop::Over;
+    }
+    let busy = coordinator.takes_turns();
+    let stop = turns.take(rt, shared, seat, signal, gate, worker, stretch);
+    drop(busy);
+    drop(place);
+    stop
+}
+
+/// A worker has found nothing to propose when the journal had so many entries. One of those at a time rests, looks whether the journal has grown, and
+/// takes turns then, until something other stops it than that there is nothing to propose. The others wait until it does.
+fn watch<J: Naming, R: Wait + Clock, G: Gate, S: StopSignal, T: Turns>(
+    rt: &R,
+    shared: &Shared<J>,
+    seat: &mut Seat<J>,
+    coordinator: &Coordinator,
+    signal: &S,
+    gate: &G,
+    worker: &mut Worker,
+    turns: &mut T,
+    entries: usize,
+) -> Stop {
+    let Some(_watch) = coordinator.try_watch() else {
+        coordinator.await_much(rt);
+        return Stop::Over;
+    };
+    let mut seen = entries;
+    let mut pause = Pause::first(coordinator.workers());
+    for _ in rt.forever() {
+        pause.wait(rt, signal);
+        let held = shared.hold_to_schedule(rt);
+        let (is_full, now) = (held.is_full(), held.entries());
+        drop(held);
+        if is_full || signal.is_raised(rt) {
+            return Stop::Over;
+        }
+        if now == seen {
+            continue;
+        }
+        let stretch = Stretch::Watching;
+        let stop = take(
+            rt,
+            shared,
+            seat,
+            coordinator,
+            signal,
+            gate,
+            worker,
+            turns,
+            stretch,
+        );
+        let Stop::Idle { entries, at_once } = stop else {
+            return stop;
+        };
+        seen = entries;
+        if !at_once {
+            pause = Pause::first(coordinator.workers());
+        }
+    }
+    unreachable!()
 }
 
 /// A worker schedules, and commits what it proposes, until the journal is full, or until the signal is raised. Where no other takes turns, a

@@ -42,8 +42,8 @@ impl StopSignal for Steps {
         self.ended.is_reached(1)
     }
 
-    fn wait<R: Wait + Clock>(&self, rt: &R, milliseconds: u64) {
-        sleep(rt, Duration::from_millis(milliseconds));
+    fn wait<R: Wait + Clock>(&self, rt: &R, pause: Duration) {
+        sleep(rt, pause);
     }
 }
 
