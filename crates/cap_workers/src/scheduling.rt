@@ -196,14 +196,14 @@ impl Turns for Direct<'_> {
         stretch: Stretch,
     ) -> Stop {
         let mut begun = self.room.begin(rt, shared, seat, gate, worker);
-        for turn in 1..stretch.turns() {
+        for turn in 1..=stretch.turns() {
             let Proposed { proposal, beside } = match self.room.proposal(begun, turn == 1) {
                 Ok(proposed) => proposed,
                 Err(stop) => return stop,
             };
-            if signal.is_raised(rt) {
-                let _end = worker.commit(rt, shared, seat, gate, proposal);
-                return Stop::Over;
+            if turn == stretch.turns() || signal.is_raised(rt) {
+                let end = worker.commit(rt, shared, seat, gate, proposal);
+                return stop_of(&end).unwrap_or(Stop::Over);
             }
             let (end, next) = self.commit(rt, shared, seat, gate, worker, proposal);
             drop(beside);
@@ -273,7 +273,7 @@ impl Turns for ByLane<'_> {
         stretch: Stretch,
     ) -> Stop {
         let mut begun = self.room.begin(rt, shared, seat, gate, worker);
-        for turn in 1..stretch.turns() {
+        for turn in 1..=stretch.turns() {
             let Proposed { proposal, beside } = match self.room.proposal(begun, turn == 1) {
                 Ok(proposed) => proposed,
                 Err(stop) => return stop,
@@ -288,7 +288,7 @@ impl Turns for ByLane<'_> {
                 CommitOutcome::Rejected => return Stop::Rejected,
                 CommitOutcome::Unmade => return Stop::NoMemory,
             }
-            if signal.is_raised(rt) {
+            if turn == stretch.turns() || signal.is_raised(rt) {
                 return Stop::Over;
             }
             begun = match next {

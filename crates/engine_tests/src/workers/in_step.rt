@@ -1,14 +1,15 @@
 //! Two workers that take turns at the same time propose on one snapshot.
 
+use crate::workers::ending::{Ending, schedule_in};
 use crate::workers::turns::filled;
 use cap_shared::{Naming, Seat, Shared};
 use cap_testing::{Mark, Work, epoch};
-use cap_workers::{Coordinator, Gate, Point, StopSignal, Worker, schedule};
+use cap_workers::{Coordinator, Gate, Point};
 use std::alloc::Global;
 use std::sync::{Arc, Mutex, Wait};
 use std::test::*;
-use std::thread::{Threads, sleep};
-use std::time::{Clock, Duration};
+use std::thread::Threads;
+use std::time::Clock;
 
 /// Where a worker has copied in its second turn: after it has copied, proposed and committed in its first.
 const SECOND_COPY: u64 = 4;
@@ -19,7 +20,7 @@ const SECOND_COPY: u64 = 4;
 struct Steps {
     /// How many points each has come to.
     points: [Mark; 2],
-    ended: Mark,
+    ending: Ending,
 }
 
 impl Gate for Steps {
@@ -31,19 +32,9 @@ impl Gate for Steps {
         };
         own.add_one();
         let _in_time = match own.count() {
-            SECOND_COPY => self.ended.awaits(1),
-            count => self.ended.is_reached(1) || other.awaits(count),
+            SECOND_COPY => self.ending.awaits(),
+            count => self.ending.is_over() || other.awaits(count),
         };
-    }
-}
-
-impl StopSignal for Steps {
-    fn is_raised<R: Wait>(&self, _rt: &R) -> bool {
-        self.ended.is_reached(1)
-    }
-
-    fn wait<R: Wait + Clock>(&self, rt: &R, pause: Duration) {
-        sleep(rt, pause);
     }
 }
 
@@ -59,22 +50,6 @@ struct InStep<'a, R: Wait + Clock> {
 }
 
 impl<R: Wait + Clock> InStep<'_, R> {
-    /// A worker takes turns until the epoch ends.
-    fn schedule<J: Naming>(&self, shared: &Shared<J>, seat: &mut Seat<J>, number: u32) {
-        let (coordinator, steps) = (&self.coordinator, &self.steps);
-        let mut worker = Worker::new(number);
-        schedule(
-            self.rt,
-            self.alloc,
-            shared,
-            seat,
-            coordinator,
-            steps,
-            steps,
-            &mut worker,
-        );
-    }
-
     /// How many have the snapshot that is shown once both workers have copied in their second turn.
     fn look<J: Naming>(&self, shared: &Shared<J>, seat: &mut Seat<J>) -> Option<usize> {
         if !self.steps.points.iter().all(|it| it.awaits(SECOND_COPY)) {
@@ -88,13 +63,21 @@ impl<R: Wait + Clock> InStep<'_, R> {
 impl<R: Wait + Clock> Work for InStep<'_, R> {
     fn work<J: Naming, H: Wait>(&self, _rt: &H, shared: &Shared<J>, seat: Seat<J>) -> Seat<J> {
         let mut seat = seat;
-        let number = seat.number();
-        if number < 2 {
-            self.schedule(shared, &mut seat, number);
+        if seat.number() < 2 {
+            let (coordinator, steps) = (&self.coordinator, &self.steps);
+            schedule_in(
+                self.rt,
+                self.alloc,
+                shared,
+                &mut seat,
+                coordinator,
+                &steps.ending,
+                steps,
+            );
             return seat;
         }
         *self.owners.lock(self.rt) = self.look(shared, &mut seat);
-        self.steps.ended.reach(1);
+        self.steps.ending.end();
         seat
     }
 
@@ -110,7 +93,7 @@ fn shared_by<H: Threads + Wait + Clock + Sync>(rt: &H, alloc: Global) -> Option<
         coordinator: Coordinator::new(),
         steps: Steps {
             points: [Mark::new(), Mark::new()],
-            ended: Mark::new(),
+            ending: Ending::new(),
         },
         owners: Mutex::new(None),
     };
