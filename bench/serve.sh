@@ -8,12 +8,12 @@
 # for how much of the time the cluster is held by the copies of 1 worker (several share them); fails where its 99th percentile with 4 workers and 64 places is
 # above 60 ms, or where more workers make fewer grants than 1. Then a busy cluster: 60 node managers that heartbeat, 60 masters that ask, release and ask
 # again, in queues at their maxima, and an operator, each as fast as it is answered, and all answers are held against each other: grants a second and how many
-# proposals are rejected for each that is made, by 1, 2 and 4 workers, directly and through 64 places; fails where 4 workers make fewer than 5,000 grants a
-# second or fewer than 1 worker, where they make less than 0.9 of that through lanes, or where more than 0.2 proposals are rejected for each that is made.
-# Last how much of a core the daemon takes while nobody says anything, with 512 nodes: fails where one worker with 16 connections takes 1 % or more, or 8
-# workers with 128 take 5 % or more. And whether all connections are still answered after the daemon was stopped and continued. A number as the argument is
-# for how many seconds each cluster is measured, 10 without. Figures depend on the machine, and on what else runs there: a run in which others on the host
-# took more than 1 % of the processors' time is made again, up to five times in all. Needs rustc for the load.
+# proposals are rejected for each that is made, by 1, 2 and 4 workers, directly and through 64 places, the run in the middle of five, in turn; fails where 4
+# workers make fewer than 5,000 grants a second or fewer than 1 worker, where they make less than 0.9 of that through lanes, or where more than 0.2 proposals
+# are rejected for each that is made. Last how much of a core the daemon takes while nobody says anything, with 512 nodes: fails where one worker with 16
+# connections takes 1 % or more, or 8 workers with 128 take 5 % or more. And whether all connections are still answered after the daemon was stopped and
+# continued. A number as the argument is for how many seconds each cluster is measured, 10 without. Figures depend on the machine, and on what else runs
+# there: a run in which others on the host took more than 1 % of the processors' time is made again, up to five times in all. Needs rustc for the load.
 . "$(dirname "${BASH_SOURCE[0]}")/common.sh"
 seconds=${1:-10}
 requests=1920000
@@ -168,13 +168,20 @@ run_busy() {
   load busy "$port" 60 60 5 "$seconds"
 }
 
-# busy WORKERS LANES: how a busy cluster is scheduled: `grants` a second, and `rejected` for each proposal that was made
-busy() {
+# run_busy_once WORKERS LANES: adds to the file of these how many grants a second a run makes, how many requests are answered a second, and how many
+# proposals were made and rejected
+run_busy_once() {
   undisturbed run_busy "$1" "$2"
-  grants=$(figure 'grants a second')
   read -r made rejected < <(sed -n 's/^proposals: \([0-9]*\) made, \([0-9]*\) rejected$/\1 \2/p' "$work/messages")
+  echo "$(figure 'grants a second') $(figure 'requests a second') $made $rejected $(sed -n 's/^epochs: //p' "$work/messages")" >>"$work/busy_$1_$2"
+}
+
+# busy WORKERS LANES: how a busy cluster was scheduled in the run in the middle: `grants` a second, and `rejected` for each proposal that was made
+busy() {
+  local requests epochs
+  read -r grants requests made rejected epochs < <(sort -n "$work/busy_$1_$2" | sed -n "$(((runs + 1) / 2))p")
   rejected=$(awk -v made="$made" -v rejected="$rejected" 'BEGIN { printf "%.3f", rejected / (made > 0 ? made : 1) }')
-  echo "busy, workers=$1 lanes=$2: $(figure 'requests a second') requests and $grants grants a second, $rejected rejected for each made; $(sed -n 's/^epochs: //p' "$work/messages")"
+  echo "busy, workers=$1 lanes=$2: $requests requests and $grants grants a second ($(cut -d ' ' -f 1 "$work/busy_$1_$2" | paste -sd ' ')), $rejected rejected for each made; $epochs"
   awk -v r="$rejected" 'BEGIN { exit r > 0.2 }' || { echo "that is more than 0.2" >&2; broken=1; }
 }
 
@@ -186,6 +193,12 @@ awk 'BEGIN {
     print "yarn.scheduler.capacity.root.q" i ".user-limit-factor=2"
   }
 }' >"$work/config"
+for _ in $(seq "$runs"); do
+  for run in '1 0' '2 0' '4 0' '1 64' '2 64' '4 64'; do
+    read -r workers lanes <<<"$run"
+    run_busy_once "$workers" "$lanes"
+  done
+done
 for lanes in 0 64; do
   busy 1 "$lanes"
   one=$grants
