@@ -131,7 +131,7 @@ impl<R: Wait + Clock> Work for Crowd<'_, R> {
 }
 
 /// What is seen in an epoch over two nodes, on which one application asks for four containers.
-fn seen<H: Threads + Wait + Clock + Sync>(rt: &H, alloc: Global) -> Option<Seen> {
+fn crowd_seen<H: Threads + Wait + Clock + Sync>(rt: &H, alloc: Global) -> Option<Seen> {
     let crowd = Crowd {
         rt,
         alloc,
@@ -155,5 +155,5 @@ fn where_many_calls_wait_workers_copy_for_themselves(rt: HostRuntime) {
         many: [false, true],
         is_shown: false,
     };
-    assert!(rt; seen(&rt, rt.alloc()) == Some(wanted));
+    assert!(rt; crowd_seen(&rt, rt.alloc()) == Some(wanted));
 }

@@ -89,7 +89,7 @@ impl<R: Wait + Clock> Work for Resting<'_, R> {
 }
 
 /// The first pauses of so many workers, in microseconds, where there is nothing to do.
-fn pauses<H: Threads + Wait + Clock + Sync>(
+fn first_pauses<H: Threads + Wait + Clock + Sync>(
     rt: &H,
     alloc: Global,
     workers: u32,
@@ -115,14 +115,14 @@ fn pauses<H: Threads + Wait + Clock + Sync>(
 #[test]
 fn a_worker_that_finds_nothing_rests_twice_as_long_each_time(rt: HostRuntime) {
     let wanted = [1000, 2000, 4000, 8000, 10_000, 10_000];
-    assert!(rt; pauses(&rt, rt.alloc(), 1) == Some(wanted));
+    assert!(rt; first_pauses(&rt, rt.alloc(), 1) == Some(wanted));
 }
 
 /// Pauses of more than one would stand here twice.
 #[test]
 fn one_of_four_workers_that_find_nothing_rests_for_all(rt: HostRuntime) {
     let wanted = [250, 500, 1000, 2000, 4000, 8000];
-    assert!(rt; pauses(&rt, rt.alloc(), 4) == Some(wanted));
+    assert!(rt; first_pauses(&rt, rt.alloc(), 4) == Some(wanted));
 }
 
 /// One queue, which 200 containers fit into.
