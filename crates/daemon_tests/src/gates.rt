@@ -72,8 +72,8 @@ impl Turns {
     }
 }
 
-/// Holds two workers where they first propose until there is something to ask for, so that each proposes it in its second turn; and in its third
-/// turn until what both proposed was committed.
+/// Holds two workers where they first propose until something is asked for, with which the first journal is full: so each proposes it in its second
+/// turn, which is its first in the second epoch. In its third turn each is held until what both proposed was committed.
 #[derive(Drop)]
 pub struct Committing {
     pub asked: Mark,
@@ -125,10 +125,14 @@ impl Gate for Committing {
     }
 }
 
-/// Once something is asked for, holds worker 1 where it has copied until what worker 0 proposes was committed for worker 0.
+/// Holds worker 1 where it has first copied until the first journal is full, and where it copies next, in the second epoch, until what worker 0
+/// proposes was committed for worker 0.
 #[derive(Drop)]
 pub struct OwnLanes {
-    pub asked: Mark,
+    /// How often worker 1 has copied.
+    pub copied: Mark,
+    /// Reached once the first journal is full.
+    pub filled: Mark,
     /// Reached once a commit was answered to worker 0.
     pub answered: Mark,
     /// Reached where one was answered to worker 1 before, which had proposed nothing, or where worker 1 was held for too long.
@@ -138,9 +142,20 @@ pub struct OwnLanes {
 impl OwnLanes {
     pub fn new() -> OwnLanes {
         OwnLanes {
-            asked: Mark::new(),
+            copied: Mark::new(),
+            filled: Mark::new(),
             answered: Mark::new(),
             missed: Mark::new(),
+        }
+    }
+
+    /// Holds worker 1, which has copied. False if that takes too long.
+    fn hold(&self) -> bool {
+        self.copied.add_one();
+        if self.copied.count() == 1 {
+            self.filled.awaits(1)
+        } else {
+            self.answered.awaits(1)
         }
     }
 }
@@ -153,7 +168,7 @@ impl Gate for OwnLanes {
                 true
             }
             (1, Point::Committed(_)) => self.answered.is_reached(1),
-            (1, Point::Copied) => !self.asked.is_reached(1) || self.answered.awaits(1),
+            (1, Point::Copied) => self.hold(),
             _ => true,
         };
         if !is_answered {

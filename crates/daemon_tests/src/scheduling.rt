@@ -136,7 +136,7 @@ fn workers_schedule(rt: HostRuntime) {
     }
 }
 
-/// A master whose ask lets two workers go, each of which must see what it proposed committed.
+/// A master whose ask fills the first journal and lets two workers go, each of which must see what it proposed committed.
 #[derive(Drop)]
 struct Witness<'a> {
     gate: &'a Committing,
@@ -162,7 +162,7 @@ fn each_proposal_is_committed(rt: HostRuntime) {
     let sizes = Sizes {
         workers: 2,
         connections: 1,
-        journal: 4096,
+        journal: 5,
         lanes: Some(64),
     };
     let gate = Committing::new();
@@ -172,8 +172,8 @@ fn each_proposal_is_committed(rt: HostRuntime) {
     assert!(rt; ended.is_some());
 }
 
-/// A master whose ask comes in the second epoch, and lets worker 0 alone go first. A heartbeat goes before it: its four calls have filled the first
-/// journal, so that once this is answered no worker is in the first epoch any more.
+/// A master whose calls fill the first journal once worker 1 has begun a turn, and whose ask comes in the second epoch, in which worker 0 alone goes
+/// first.
 #[derive(Drop)]
 struct LateMaster<'a> {
     gate: &'a OwnLanes,
@@ -185,13 +185,11 @@ impl Client for LateMaster<'_> {
         H: Net<Listener = TcpListener, Stream = TcpStream> + Threads + Wait + Clock + Eprint + Sync,
     >(&self, rt: &H, alloc: Global, port: u16) -> io::Result<bool> {
         let stream = connect(rt, port)?;
+        let has_begun = self.gate.copied.awaits(1);
         self.master.register(alloc, &stream)?;
-        let Some((0, response)) = self.master.ask(alloc, &stream, 0, &[])? else {
-            return Ok(false);
-        };
-        self.gate.asked.reach(1);
-        let reply = self.master.ask(alloc, &stream, response, TEN)?;
-        self.master.is_told(rt, alloc, &stream, reply)
+        self.gate.filled.reach(1);
+        let reply = self.master.ask(alloc, &stream, 0, TEN)?;
+        Ok(has_begun && self.master.is_told(rt, alloc, &stream, reply)?)
     }
 }
 
