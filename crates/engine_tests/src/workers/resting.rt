@@ -26,6 +26,13 @@ struct Pauses {
     count: usize,
 }
 
+/// Keeps the pauses, until so many are seen that the epoch ends.
+#[derive(Drop)]
+struct Rests {
+    pauses: Mutex<Pauses>,
+    ending: Ending,
+}
+
 /// Workers that find nothing in their first turns. Once all have, they go on.
 #[derive(Drop)]
 struct Resting<'a, R: Wait + Clock> {
@@ -34,8 +41,7 @@ struct Resting<'a, R: Wait + Clock> {
     coordinator: Coordinator,
     workers: u32,
     proposed: Mark,
-    pauses: Mutex<Pauses>,
-    ending: Ending,
+    rests: Rests,
 }
 
 impl<R: Wait + Clock> Gate for Resting<'_, R> {
@@ -47,12 +53,12 @@ impl<R: Wait + Clock> Gate for Resting<'_, R> {
     }
 }
 
-impl<R: Wait + Clock> StopSignal for Resting<'_, R> {
-    fn is_raised<S: Wait>(&self, rt: &S) -> bool {
-        self.ending.is_raised(rt)
+impl StopSignal for Rests {
+    fn is_raised<R: Wait>(&self, _rt: &R) -> bool {
+        self.ending.is_over()
     }
 
-    fn wait<S: Wait + Clock>(&self, rt: &S, pause: Duration) {
+    fn wait<R: Wait + Clock>(&self, rt: &R, pause: Duration) {
         let mut pauses = self.pauses.lock(rt);
         let place = pauses.count;
         if place < PAUSES {
@@ -63,7 +69,7 @@ impl<R: Wait + Clock> StopSignal for Resting<'_, R> {
         if place == 0 {
             sleep(rt, Duration::from_millis(FIRST));
         }
-        if place + 1 >= PAUSES {
+        if place >= PAUSES - 1 {
             self.ending.end();
         }
     }
@@ -72,14 +78,14 @@ impl<R: Wait + Clock> StopSignal for Resting<'_, R> {
 impl<R: Wait + Clock> Work for Resting<'_, R> {
     fn work<J: Naming, H: Wait>(&self, _rt: &H, shared: &Shared<J>, seat: Seat<J>) -> Seat<J> {
         let mut seat = seat;
-        let coordinator = &self.coordinator;
+        let (coordinator, rests) = (&self.coordinator, &self.rests);
         schedule_in(
             self.rt,
             self.alloc,
             shared,
             &mut seat,
             coordinator,
-            self,
+            rests,
             self,
         );
         seat
@@ -100,15 +106,17 @@ fn first_pauses<H: Threads + Wait + Clock + Sync>(
         coordinator: Coordinator::new(),
         workers,
         proposed: Mark::new(),
-        pauses: Mutex::new(Pauses {
-            lengths: [0; PAUSES],
-            count: 0,
-        }),
-        ending: Ending::new(),
+        rests: Rests {
+            pauses: Mutex::new(Pauses {
+                lengths: [0; PAUSES],
+                count: 0,
+            }),
+            ending: Ending::new(),
+        },
     };
     let opened = cluster(alloc, TWO_QUEUES)?;
     let _closed = epoch(rt, alloc, opened, workers, 100, &resting)?;
-    let seen = *resting.pauses.lock(rt);
+    let seen = *resting.rests.pauses.lock(rt);
     Some(seen.lengths)
 }
 
