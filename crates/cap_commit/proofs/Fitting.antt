@@ -13,6 +13,7 @@ use Rattle.cap_nodes.specs.contracts.node.Node as node
 use Rattle.cap_nodes.specs.contracts.nodes.Nodes as nodes
 use Rattle.cap_commit.specs.contracts.cluster.Cluster as cluster
 use Rattle.cap_commit.specs.contracts.limits.Limits as limits
+use Rattle.cap_commit.specs.contracts.made.Made as made
 
 pub limits_in_cluster : (K : RattleType) → FitsInMemory (cluster.the_row K) → FitsInMemory (limits.the_row K)
 limits_in_cluster K = part_fits (layout (cluster.the_row K)) (1 ∷ [])
@@ -37,6 +38,9 @@ array_in_cluster n fits = let whole = amounts_in_cluster (param 0 (number n)) (n
 
 pub reservation_in_cluster : (n : ℕ) → FitsInMemory (cluster.the_row (param 0 (number n))) → FitsInMemory (reservation.the_row (param 0 (number n)))
 reservation_in_cluster n fits = let whole = container_in_cluster (param 0 (number n)) fits in omega (arith, whole)
+
+pub made_in_cluster : (n : ℕ) → FitsInMemory (cluster.the_row (param 0 (number n))) → FitsInMemory (made.the_row (param 0 (number n)))
+made_in_cluster n fits = let whole = nodes_in_cluster (param 0 (number n)) fits in omega (arith, whole)
 
 pub ask_in_cluster : (n : ℕ) → FitsInMemory (cluster.the_row (param 0 (number n))) → FitsInMemory (ask.the_row (param 0 (number n)))
 ask_in_cluster n fits = let whole = limits_in_cluster (param 0 (number n)) fits in omega (arith, whole)

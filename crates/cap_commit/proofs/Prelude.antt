@@ -85,7 +85,7 @@ pub use Rattle.cap_model.specs.declared.replies.AllocateNumbers.{AllocateNumbers
 pub use Rattle.cap_model.specs.declared.reply.ReplyWith.{ReplyWith}
 pub use Rattle.cap_model.specs.declared.report.QueueReport.{QueueReport}
 pub use Rattle.cap_model.specs.declared.request.Request.{Request}
-pub use Rattle.cap_nodes.proofs.Reserved.{all_elsewhere, is_elsewhere, others_elsewhere}
+pub use Rattle.cap_nodes.proofs.Dropping.{all_elsewhere, is_elsewhere, others_elsewhere}
 pub use Rattle.cap_nodes.specs.Loads.{Load, made_after}
 pub use Rattle.cap_nodes.specs.Tables.{IsLoadIn, IsSound, free_on}
 pub use Rattle.cap_tree.proofs.Listings.{any_kept, path_kept, same_path, set_running, settings_stay, state_in_settings}

@@ -1,3 +1,4 @@
 pub mod ClusterState
 pub mod Owners
 pub mod Admission
+pub mod Making

@@ -1,4 +1,4 @@
-//! Whether a proposal may be made, and the first reason why not (`Cluster::reason`).
+//! Whether a proposal may be made, and the first reason why not (`Cluster::admit`, `Cluster::reason`).
 ghost use Rattle.std.specs.Prelude.{◌≡◌, ◌&&◌, ◌||◌, Some, IfSome, IfOk, option_map};
 ghost use Rattle.std.specs.Option.{option_or};
 ghost use Rattle.std.specs.Result.{result_err};
@@ -28,8 +28,8 @@ impl<const K: usize> Cluster<K> {
     }
 
     /// Where a proposal may be made now, the room that it takes back, in MiB, vcores and GPUs: 0 of each where it converts no
-    /// reservation. Else the first reason to reject it.
-    pub(crate) fn admit(&self, proposal: &Proposal<K>) -> Result<Resource<K>, Reason>
+    /// reservation. Else the first reason to reject it. It takes no memory, and looks at no more than `reason` does.
+    pub fn admit(&self, proposal: &Proposal<K>) -> Result<Resource<K>, Reason>
         ensures reason { result_err result ≡ reason_of (sight_of self.now.flat) proposal.now }
         ensures old { IfOk result (λ old. old ≡ taken_back (sight_of self.now.flat) proposal.now) }
     {
@@ -132,7 +132,7 @@ impl<const K: usize> Cluster<K> {
             || is_own (sight_of self.now.flat) proposal.now) }
     {
         self.nodes.numbers_rise();
-        own || ask.count() as usize > self.nodes.reserved_for(proposal.app(), &ask.key())
+        own || ask.count() > self.nodes.reserved_for(proposal.app(), &ask.key())
     }
 
     /// Whether the ask is for this very resource.

@@ -1,15 +1,17 @@
-//! Making a proposal, a grant or a reservation, exactly where it is admissible now (`Cluster::try_commit`).
+//! Making a proposal, a grant or a reservation, exactly where it is admissible now (`Cluster::make`, `Cluster::try_commit`).
 ghost use Rattle.std.specs.Prelude.{◌≡◌, ◌+◌, None, IsSome, IfOk, OnOk, OnErr, true, false};
 ghost use Rattle.cap_model.specs.Flat.{app_at};
 ghost use Rattle.cap_model.specs.Sight.{sight_of};
 ghost use Rattle.cap_model.specs.Admission.{IsAdmissible, is_grant, reason_of};
-ghost use Rattle.cap_model.specs.Verdicts.{IsVerdict};
-ghost use Rattle.cap_model.specs.Events.{after_grant, after_reserve, grant_proposal, reserve_proposal};
+ghost use Rattle.cap_model.specs.Verdicts.{IsOf, IsVerdict};
+ghost use Rattle.cap_model.specs.Events.{Step, after_grant, after_reserve, grant_proposal, reserve_proposal};
 ghost use Rattle.cap_asks.specs.Apps.{HasRooms, UsesRoom, live_of};
 ghost use Rattle.cap_commit.specs.Admission.{taken_back};
+ghost use Rattle.cap_commit.specs.Making.{KeepsIfRejected, event_of_made};
 
 use crate::cluster::Cluster;
-use cap_model::{Container, Event, Grant, NoMemory, Proposal, Reservation, Verdict};
+use crate::made::Made;
+use cap_model::{Container, Grant, NoMemory, Proposal, Reservation, Verdict};
 use cap_vector::Resource;
 
 impl<const K: usize> Cluster<K> {
@@ -100,36 +102,48 @@ impl<const K: usize> Cluster<K> {
         })
     }
 
-    /// Makes a proposal that may be made, and takes this room back where it is a grant. `NoMemory` changes nothing that calls see.
-    fn make(&mut self, proposal: &Proposal<K>, old: &Resource<K>) -> Result<Verdict<K>, NoMemory>
+    /// Makes a proposal that `admit` has found admissible, and takes back the room that it said: the grant or the reservation is the
+    /// result. `NoMemory` changes nothing that calls see.
+    pub fn make(
+        &mut self,
+        proposal: &Proposal<K>,
+        old: &Resource<K>,
+    ) -> Result<Made<K>, NoMemory>
         requires passes { reason_of (sight_of self.old.flat) proposal.now ≡ None }
         requires old { old.now ≡ taken_back (sight_of self.old.flat) proposal.now }
-        ensures ok { IfOk result (IsVerdict proposal.now self.old.flat self.new.flat) }
+        ensures of { IfOk result (λ made. IsOf proposal.now (event_of_made made)) }
+        ensures step { IfOk result (λ made. Step self.old.flat (event_of_made made) self.new.flat) }
         ensures err { OnErr result (self.new.flat ≡ self.old.flat) }
     {
         if proposal.is_grant() {
             match self.grant(proposal, old) {
-                Ok(container) => Ok(Verdict::Done(Event::Grant { container })),
+                Ok(container) => Ok(Made::Grant(container)),
                 Err(NoMemory) => Err(NoMemory),
             }
         } else {
             match self.reserve(proposal) {
-                Ok(reservation) => Ok(Verdict::Done(Event::Reserve { reservation })),
+                Ok(reservation) => Ok(Made::Reserve(reservation)),
                 Err(NoMemory) => Err(NoMemory),
             }
         }
     }
 
     /// Tries a proposal: it is made exactly where it is admissible now, whatever was seen before. Else it is rejected for the first
-    /// reason that holds, and nothing changes. `NoMemory` comes only where it is admissible, and changes nothing that calls see.
+    /// reason that holds, and nothing changes at all, room included. `NoMemory` comes only where it is admissible, and changes
+    /// nothing that calls see.
     pub fn try_commit(&mut self, proposal: Proposal<K>) -> Result<Verdict<K>, NoMemory>
         ensures ok { IfOk result (IsVerdict proposal.entry self.old.flat self.new.flat) }
+        ensures rejected { IfOk result (KeepsIfRejected self.old self.new) }
         ensures admissible { OnErr result (IsAdmissible (sight_of self.old.flat) proposal.entry) }
         ensures err { OnErr result (self.new.flat ≡ self.old.flat) }
     {
-        match self.admit(&proposal) {
-            Ok(old) => self.make(&proposal, &old),
-            Err(reason) => Ok(Verdict::Rejected(reason)),
+        let old = match self.admit(&proposal) {
+            Ok(old) => old,
+            Err(reason) => return Ok(Verdict::Rejected(reason)),
+        };
+        match self.make(&proposal, &old) {
+            Ok(made) => Ok(Verdict::Done(made.event())),
+            Err(NoMemory) => Err(NoMemory),
         }
     }
 }

@@ -1,7 +1,7 @@
 -- All that is true of a table of nodes, as a container is placed, and as a reservation is made and dropped.
 use Rattle.cap_nodes.proofs.Prelude.{◌≡◌, ℕ, List, [], ◌∷◌, ◌++◌, length, map, refl, sym, ap, ◌∙◌, subst, Option, Some, None, filter, ◌==◌, IfSome, Fits, IsWithin, amount_max, less, plus, IsRising, ClusterNode, Container, NodeTable, sum_of_totals, Load, AreTied, HaveReservations, change_load, held_more, load_at, reservation_of, reserved_load, unreserved_load, IsLoadIn}
 use Rattle.cap_nodes.proofs.Changes.{nodes_of, rising_changed, same_nodes, tie_of, with_one, with_same}
-use Rattle.cap_nodes.proofs.Reserved.{is_elsewhere}
+use Rattle.cap_nodes.proofs.Dropping.{is_elsewhere}
 use Rattle.cap_nodes.proofs.Reserving.{Has, have_changed, have_fewer, have_more}
 use Rattle.cap_nodes.proofs.Ties.{is_found}
 

@@ -5,11 +5,13 @@ pub mod Owned
 mod Prelude
 pub mod Presents
 pub mod Sums
+pub mod Counting
+pub mod AppKeys
 pub mod Ties
 pub mod Changes
 pub mod Changing
 pub mod Walked
-pub mod Reserved
+pub mod Dropping
 pub mod Reserving
 pub mod Holding
 pub mod Most

@@ -16,7 +16,7 @@ pub use Rattle.std.specs.Cmp.{both_tied, nat_cmp_is, unsigned_ties}
 pub use Rattle.std.specs.List.{All, AllByRecursion, list_any, slice_get, sum, sum_by}
 pub use Rattle.std.specs.Map.{lookup, remove_entry, set_value, values_of}
 pub use Rattle.std.specs.Mem.{FitsInMemory}
-pub use Rattle.std.specs.Option.{option_or}
+pub use Rattle.std.specs.Option.{option_map_or, option_or}
 pub use Rattle.std.specs.Ordering.{is_gt, nat_cmp, ordering_then}
 pub use Rattle.std.specs.Prelude.{IfSome, IsSome, IsTrue, bytes_eq, count_by, filter, if◌then◌else◌, is_some, nat_eq, option_and_then, option_map, ⊤, ◌==◌, ◌||◌, ◌↔◌}
 pub use Rattle.std.specs.declared.cmp.Ordering.TheVariants.{Equal, Greater, Less}
@@ -36,7 +36,8 @@ pub use Rattle.cap_model.specs.Heartbeat.{after_beat}
 pub use Rattle.cap_model.specs.RegisterNode.{sum_of_totals}
 pub use Rattle.cap_model.specs.declared.ask.Key.{Key}
 pub use Rattle.cap_model.specs.declared.replies.HeartbeatReply.{HeartbeatReply}
-pub use Rattle.cap_nodes.specs.Loads.{AreHosts, AreTied, CanHold, ContainerTable, HasCount, HasLess, HasMore, HasOne, HaveReservations, IsNumbered, IsOwnerIndex, IsTied, Load, LoadTable, beaten_load, change_load, has_pair, held_less, held_more, is_kept_for, is_of, load_at, made_after, pair_cmp, reservation_of, reserved_load, some_count, tagged_items, unreserved_load}
+pub use Rattle.cap_nodes.specs.Counting.{AreCounted, HasCount, app_key, app_key_of, count_in, same_app_key, some_count}
+pub use Rattle.cap_nodes.specs.Loads.{AreHosts, AreTied, CanHold, ContainerTable, HasLess, HasMore, HasOne, HaveReservations, IsNumbered, IsOwnerIndex, IsTied, Load, LoadTable, beaten_load, change_load, has_pair, held_less, held_more, is_kept_for, is_of, load_at, made_after, pair_cmp, reservation_of, reserved_load, tagged_items, unreserved_load}
 pub use Rattle.cap_nodes.specs.Tables.{IsLoadIn, IsSound, left_of}
 pub use Rattle.cap_vector.proofs.AmountLemmas.{amount-less, amount-plus, amount-zeros, length-less}
 pub use Rattle.cap_vector.specs.Vector.{Fits, IsWithin, amount, amount_max, by_amount, less, plus, zeros}

@@ -1,7 +1,7 @@
 -- The present nodes by number, as one more comes, one changes and one goes.
-use Rattle.cap_nodes.proofs.Prelude.{◌≡◌, ℕ, ◌+◌, ◌-◌, ◌≤◌, ◌<◌, Bool, true, false, cond, List, [], ◌∷◌, ◌++◌, length, map, not, refl, sym, ap, ◌∙◌, arith, subst, inl, inr, zero, suc, Option, Some, None, filter, ◌==◌, ◌||◌, nat_eq, bytes_eq, count_by, is_some, ◌↔◌, IfSome, IsSome, if◌then◌else◌, list_any, sum, sum-map, same_Some, bytes_eq-Decides, lookup, remove_entry, set_value, values_of, IsRising, nodes_max, is_text, one_where, count_cons, IsIn, found_by_number, Load, AreHosts, HasCount, IsNumbered, load_at, change_load, some_count}
+use Rattle.cap_nodes.proofs.Prelude.{◌≡◌, ℕ, ◌+◌, ◌-◌, ◌≤◌, ◌<◌, Bool, true, false, cond, List, [], ◌∷◌, ◌++◌, length, map, not, refl, sym, ap, ◌∙◌, arith, subst, inl, inr, zero, suc, Option, Some, None, filter, ◌==◌, ◌||◌, nat_eq, nat_tests, bytes_eq, count_by, is_some, ◌↔◌, IfSome, IsSome, if◌then◌else◌, list_any, sum, sum-map, same_Some, bytes_eq-Decides, lookup, remove_entry, set_value, values_of, IsRising, nodes_max, is_text, one_where, nat_lt, count_cons, IsIn, found_by_number, Load, AreHosts, HasCount, IsNumbered, load_at, change_load, some_count}
 use Rattle.std.proofs.Common.{slice_get}
-use Rattle.cap_nodes.proofs.Sums.{count-push, sum-without}
+use Rattle.cap_nodes.proofs.Counting.{counted_pushed, counted_removed, has_some}
 use Rattle.cap_nodes.proofs.ByNumber as by_number
 use Rattle.cap_nodes.proofs.ByNumber.{found_by_hash}
 use Rattle.cap_nodes.proofs.Numbered.{same_number, kept-change}
@@ -29,15 +29,7 @@ read_in (y ∷ ys) (suc i) x e = inr (read_in ys i x e)
 pub nth_found : (loads : List Load) (next i : ℕ) (p : Load) → IsRising 1 (map (λ q. q.node.number) loads) next → slice_get loads i ≡ Some p → load_at loads p.node.number ≡ Some p
 nth_found loads next i p rising at = found_by_number (λ (q : Load). q.node.number) 1 loads next p rising (read_in loads i p at)
 
--- the count of a host, as it is kept
-pub counted : (v n : ℕ) → Some v ≡ some_count n → v ≡ n
-counted v zero e = absurd (cc e)
-counted v (suc n) e = same_Some v (suc n) e
-
-pub none_counted : (n : ℕ) → None ≡ some_count n → 0 ≡ n
-none_counted zero e = refl
-none_counted (suc n) e = absurd (cc e)
-
+-- whether some pass a test, by how many do
 pub any_counted : {X : Type 0} (t : X → Bool) (xs : List X) → is_some (some_count (count_by t xs)) ≡ list_any t xs
 any_counted t [] = refl
 any_counted t (x ∷ xs) = ap (λ n. is_some (some_count n)) (count_cons t x xs) ∙ by (t x) (any_counted t xs)
@@ -46,8 +38,24 @@ any_counted t (x ∷ xs) = ap (λ n. is_some (some_count n)) (count_cons t x xs)
     by true e = let m : 1 + count_by t xs ≡ suc (count_by t xs) = omega arith in ap (λ n. is_some (some_count n)) m
     by false e = let m : 0 + count_by t xs ≡ count_by t xs = omega arith in ap (λ n. is_some (some_count n)) m ∙ e
 
+pub any_of_some : {X : Type 0} (t : X → Bool) (xs : List X) → nat_lt 0 (count_by t xs) ≡ list_any t xs
+any_of_some t xs = positive (count_by t xs) ∙ any_counted t xs
+  where
+    positive : (n : ℕ) → nat_lt 0 n ≡ is_some (some_count n)
+    positive zero = refl
+    positive (suc n) = let some : nat_lt 0 (suc n) ≡ true = grind (arith, nat_tests) in some
+
+abbrev pub host_of : Load → List ℕ
+host_of p = p.node.host
+
 abbrev pub with_host : List ℕ → Load → Bool
 with_host h p = bytes_eq p.node.host h
+
+own_bytes : (h : List ℕ) → bytes_eq h h ≡ true
+own_bytes h = (bytes_eq-Decides h h).1 refl
+
+same_bytes : (g h : List ℕ) → bytes_eq g h ≡ true → g ≡ h
+same_bytes g h = (bytes_eq-Decides g h).0
 
 -- what is no text is no host
 pub no_host : (entries : List (List ℕ × ℕ)) (loads : List Load) (h : List ℕ) (text : Option (List ℕ)) → AreHosts entries loads → IsSome text ↔ (is_text 64 h ≡ true) → text ≡ None → false ≡ list_any (with_host h) loads
@@ -58,49 +66,35 @@ no_host entries loads h text hosts shows none =
     by true e = absurd (cc (sym (ap is_some none) ∙ shows.1 e))
     by false e = e
 
--- the hosts once one of them has a count
-host_set : (old new : List (List ℕ × ℕ)) (before after : List Load) (host : List ℕ) (count : ℕ) → AreHosts old before → HasCount host count old new → is_text 64 host ≡ true →
-    count ≡ count_by (with_host host) after → ((h : List ℕ) → bytes_eq host h ≡ false → count_by (with_host h) after ≡ count_by (with_host h) before) → AreHosts new after
-host_set old new before after host count hosts has text is others = record {
-  counts = λ h. has h ∙ counts h (bytes_eq host h) refl;
-  texts = λ h e. has h ∙ texts h e (bytes_eq host h) refl;
-}
+-- no host is no text, once one that is has a count
+texts_set : (old new : List (List ℕ × ℕ)) (host : List ℕ) (count : ℕ) → HasCount bytes_eq host count old new → is_text 64 host ≡ true → ((h : List ℕ) → is_text 64 h ≡ false → lookup (bytes_eq h) old ≡ None) →
+    (h : List ℕ) → is_text 64 h ≡ false → lookup (bytes_eq h) new ≡ None
+texts_set old new host count set text none h bad = set h ∙ by (bytes_eq host h) refl
   where
-    counts : (h : List ℕ) (b : Bool) → bytes_eq host h ≡ b → (if b then some_count count else lookup (bytes_eq h) old) ≡ some_count (count_by (with_host h) after)
-    counts h true e = ap some_count (is ∙ ap (λ x. count_by (with_host x) after) ((bytes_eq-Decides host h).0 e))
-    counts h false e = hosts.counts h ∙ ap some_count (sym (others h e))
-
-    texts : (h : List ℕ) → is_text 64 h ≡ false → (b : Bool) → bytes_eq host h ≡ b → (if b then some_count count else lookup (bytes_eq h) old) ≡ None
-    texts h bad true e = absurd (cc (sym bad ∙ ap (is_text 64) (sym ((bytes_eq-Decides host h).0 e)) ∙ text))
-    texts h bad false e = hosts.texts h bad
+    by : (b : Bool) → bytes_eq host h ≡ b → (if b then some_count count else lookup (bytes_eq h) old) ≡ None
+    by true e = absurd (cc (sym bad ∙ ap (is_text 64) (sym (same_bytes host h e)) ∙ text))
+    by false e = none h bad
 
 module _ (p : Load) (host : List ℕ) (its : p.node.host ≡ host) where
-  own : one_where (with_host host p) ≡ 1
-  own = ap (λ x. one_where (bytes_eq x host)) its ∙ ap one_where ((bytes_eq-Decides host host).1 refl)
-
-  other : (h : List ℕ) → bytes_eq host h ≡ false → one_where (with_host h p) ≡ 0
-  other h e = ap (λ x. one_where (bytes_eq x h)) its ∙ ap one_where e
-
   -- one more load
-  pub host_pushed : (old new : List (List ℕ × ℕ)) (loads : List Load) (count : ℕ) → AreHosts old loads → HasCount host count old new → is_text 64 host ≡ true → count ≡ count_by (with_host host) loads + 1 →
+  pub host_pushed : (old new : List (List ℕ × ℕ)) (loads : List Load) (count : ℕ) → AreHosts old loads → HasCount bytes_eq host count old new → is_text 64 host ≡ true → count ≡ count_by (with_host host) loads + 1 →
       AreHosts new (loads ++ p ∷ [])
-  host_pushed old new loads count hosts has text is =
-      host_set old new loads (loads ++ p ∷ []) host count hosts has text (let m = count-push (with_host host) loads p in omega (arith, is, m, own))
-      (λ h e. let m = count-push (with_host h) loads p in let z = other h e in omega (arith, m, z))
+  host_pushed old new loads count hosts set text is = record {
+    counts = counted_pushed bytes_eq host_of own_bytes same_bytes p host its old new loads count hosts.counts set is;
+    texts = texts_set old new host count set text hosts.texts;
+  }
 
   -- one that is there, and without it
   module _ (next n : ℕ) (loads : List Load) (rising : IsRising 1 (map (λ q. q.node.number) loads) next) (at : load_at loads n ≡ Some p) where
-    moved : (t : Load → Bool) → count_by t loads ≡ count_by t (filter (λ q. not (q.node.number == n)) loads) + one_where (t p)
-    moved t = sum-without (λ (q : Load). q.node.number) (λ q. one_where (t q)) n 1 loads next rising p at
-
     pub has_host : 1 ≤ count_by (with_host host) loads
-    has_host = let m = moved (with_host host) in omega (arith, m, own)
+    has_host = has_some bytes_eq host_of own_bytes same_bytes p host its (λ (q : Load). q.node.number) next n loads rising at
 
-    pub host_removed : (old new : List (List ℕ × ℕ)) (count : ℕ) → AreHosts old loads → HasCount host count old new → is_text 64 host ≡ true → count ≡ count_by (with_host host) loads - 1 →
+    pub host_removed : (old new : List (List ℕ × ℕ)) (count : ℕ) → AreHosts old loads → HasCount bytes_eq host count old new → is_text 64 host ≡ true → count ≡ count_by (with_host host) loads - 1 →
         AreHosts new (filter (λ q. not (q.node.number == n)) loads)
-    host_removed old new count hosts has text is =
-        host_set old new loads (filter (λ q. not (q.node.number == n)) loads) host count hosts has text (let m = moved (with_host host) in omega (arith, is, m, own))
-        (λ h e. let m = moved (with_host h) in let z = other h e in omega (arith, m, z))
+    host_removed old new count hosts set text is = record {
+      counts = counted_removed bytes_eq host_of own_bytes same_bytes p host its (λ (q : Load). q.node.number) next n loads rising at old new count hosts.counts set is;
+      texts = texts_set old new host count set text hosts.texts;
+    }
 
 pub hosts_stay : (entries : List (List ℕ × ℕ)) (n : ℕ) (change : Load → Load) → ((p : Load) → (change p).node.host ≡ p.node.host) → (loads : List Load) → AreHosts entries loads →
     AreHosts entries (change_load n change loads)
@@ -113,14 +107,14 @@ hosts_stay entries n change keeps loads hosts = record {
 }
 
 pub removed : (old new : List (ℕ × Load)) (next n : ℕ) (hosts left : List (List ℕ × ℕ)) (p : Load) (host : List ℕ) (count : ℕ) → p.node.host ≡ host → IsPresent old next × AreHosts hosts (values_of old) →
-    Some p ≡ lookup (nat_eq n) old → HasCount host count hosts left → is_text 64 host ≡ true → count ≡ count_by (with_host host) (values_of old) - 1 → new ≡ remove_entry (nat_eq n) old →
+    Some p ≡ lookup (nat_eq n) old → HasCount bytes_eq host count hosts left → is_text 64 host ≡ true → count ≡ count_by (with_host host) (values_of old) - 1 → new ≡ remove_entry (nat_eq n) old →
     Are new left (filter (λ q. not (q.node.number == n)) (values_of old)) next
 removed old new next n hosts left p host count its h at has text is e =
     with_hosts new left (filter (λ q. not (q.node.number == n)) (values_of old)) next (by_number.removed h.0 (nat_eq n) n (same_number n) new e)
     (host_removed p host its next n (values_of old) h.0.rising (there old next n p h.0 at) hosts left count h.1 has text is)
 
 pub pushed : (old new : List (ℕ × Load)) (next : ℕ) (hosts more : List (List ℕ × ℕ)) (p : Load) (host : List ℕ) (count : ℕ) → p.node.host ≡ host → IsPresent old next × AreHosts hosts (values_of old) →
-    length (values_of old) < nodes_max → p.node.number ≡ next → HasCount host count hosts more → is_text 64 host ≡ true → count ≡ count_by (with_host host) (values_of old) + 1 →
+    length (values_of old) < nodes_max → p.node.number ≡ next → HasCount bytes_eq host count hosts more → is_text 64 host ≡ true → count ≡ count_by (with_host host) (values_of old) + 1 →
     new ≡ old ++ (next, p) ∷ [] → Are new more (values_of old ++ p ∷ []) (next + 1)
 pushed old new next hosts more p host count its h few last has text is e =
     with_hosts new more (values_of old ++ p ∷ []) (next + 1) (by_number.pushed h.0 new p few last e) (host_pushed p host its hosts more (values_of old) count h.1 has text is)

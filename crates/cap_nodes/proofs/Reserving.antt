@@ -1,6 +1,6 @@
 -- The reservation that each node has, as one more is made, one is dropped, and nodes come, change and go.
 use Rattle.cap_nodes.proofs.Prelude.{◌≡◌, ℕ, Bool, true, false, cond, List, [], ◌∷◌, ◌++◌, map, refl, sym, ap, ◌∙◌, arith, subst, Option, Some, None, filter, find, not, ◌==◌, AllByRecursion, option_or, eqb-true, nat_tests, map_push, find-append, Container, Reservation, find_gone, find_others, Load, HaveReservations, load_at, change_load, reservation_of, reserved_load, unreserved_load}
-use Rattle.cap_nodes.proofs.Reserved.{is_elsewhere}
+use Rattle.cap_nodes.proofs.Dropping.{is_elsewhere}
 use Rattle.cap_nodes.proofs.Ties.{all_kept, all_mapped, all_pushed, is_found}
 
 -- a change of a node that is not there

@@ -14,6 +14,7 @@ use Rattle.cap_nodes.specs.contracts.load.Load as load
 use Rattle.cap_nodes.specs.contracts.node.Node as node
 use Rattle.cap_nodes.specs.contracts.nodes.Nodes as nodes
 use Rattle.cap_nodes.specs.contracts.present.Present as present
+use Rattle.cap_nodes.specs.contracts.reserved.Reserved as reserved
 use Rattle.cap_nodes.proofs.Most.{fits_by_most}
 
 -- a field of a struct that fits
@@ -29,6 +30,9 @@ module _ (n : ℕ) (fits : FitsInMemory (nodes.the_row (param 0 (number n)))) wh
 
   pub containers_fit : FitsInMemory (containers.the_row K)
   containers_fit = field_fits (layout (nodes.the_row K)) (layout (containers.the_row K)) 1 _ _ refl _ refl fits
+
+  pub reserved_fits : FitsInMemory (reserved.the_row K)
+  reserved_fits = field_fits (layout (nodes.the_row K)) (layout (reserved.the_row K)) 2 _ _ refl _ refl fits
 
   pub load_fits : FitsInMemory (load.the_row K)
   load_fits = field_fits (layout (present.the_row K)) (layout (load.the_row K)) 2 _ _ refl _ refl present_fits

@@ -1,3 +1,4 @@
 pub mod Tables
+pub mod Counting
 pub mod Loads
 pub mod Changes

@@ -1,5 +1,5 @@
 -- The nodes with what their containers hold, and the live containers.
-use Rattle.std.specs.Prelude.{◌≡◌, ℕ, zero, suc, bytes_eq, ◌+◌, ◌-◌, ◌<◌, ◌≤◌, List, length, not, ◌&&◌, ◌||◌, Option, None, Some, Bool, false, IsSome, map, find, count_by, ◌==◌, if◌then◌else◌, ◌++◌, ◌∷◌, []}
+use Rattle.std.specs.Prelude.{◌≡◌, ℕ, bytes_eq, ◌+◌, ◌-◌, ◌<◌, ◌≤◌, List, length, not, ◌&&◌, ◌||◌, Option, None, Some, Bool, false, IsSome, map, find, count_by, ◌==◌, if◌then◌else◌, ◌++◌, ◌∷◌, []}
 use Rattle.std.specs.List.{AllByRecursion, list_any}
 use Rattle.std.specs.BTreeMap.{is_at}
 use Rattle.std.specs.Option.{option_or}
@@ -16,6 +16,7 @@ use Rattle.cap_model.specs.Heartbeat.{after_beat}
 use Rattle.cap_model.specs.declared.ask.Key.{Key}
 use Rattle.cap_model.specs.Events.{launch}
 use Rattle.cap_model.specs.RegisterNode.{new_node}
+use Rattle.cap_nodes.specs.Counting.{AreCounted}
 
 -- a node, what its live containers hold, how many they are, and its reservation
 pub record Load : Type 0 where
@@ -116,17 +117,9 @@ pub record IsNumbered {X : Type 0} (num : X → ℕ) (most : ℕ) (entries : Lis
   pub rising : IsRising 1 (map num (values_of entries)) next
   pub few : length (values_of entries) ≤ most
 
--- a count that is kept only where there are some, and hosts with one of this count in place of the old
-abbrev pub some_count : ℕ → Option ℕ
-some_count zero = None
-some_count (suc n) = Some (suc n)
-
-abbrev pub HasCount : List ℕ → ℕ → List (List ℕ × ℕ) → List (List ℕ × ℕ) → Type 0
-HasCount host count old new = (h : List ℕ) → lookup (bytes_eq h) new ≡ (if bytes_eq host h then some_count count else lookup (bytes_eq h) old)
-
 -- each host with how many loads are of nodes that have it, and nothing that is no host
 pub record AreHosts (entries : List (List ℕ × ℕ)) (loads : List Load) : Type 0 where
-  pub counts : (h : List ℕ) → lookup (bytes_eq h) entries ≡ some_count (count_by (λ p. bytes_eq p.node.host h) loads)
+  pub counts : AreCounted bytes_eq (λ p. p.node.host) entries loads
   pub texts : (h : List ℕ) → is_text 64 h ≡ false → lookup (bytes_eq h) entries ≡ None
 
 -- a node holds what the live containers on it hold, which fits its total

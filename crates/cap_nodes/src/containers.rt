@@ -187,20 +187,6 @@ impl<const K: usize> Containers<K> {
         None
     }
 
-    /// How many there are for a key of an application. It looks at those of the application alone.
-    pub(crate) fn count_for(&self, app: u64, key: &Key) -> usize
-        ensures { result ≡ length (filter (is_kept_for app key.now) self.now.containers) }
-    {
-        self.numbers_rise();
-        let mut count = 0;
-        let mut after = 0;
-        while let Some(container) = self.next_for(app, key, after) {
-            after = container.number();
-            count += 1;
-        }
-        count
-    }
-
     /// The one for a key of an application that has so many others before it, none where there are no more than so many. It looks
     /// at those of the application alone.
     pub(crate) fn nth_for(&self, app: u64, key: &Key, before: u32) -> Option<Container<K>>

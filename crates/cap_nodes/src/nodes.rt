@@ -21,6 +21,7 @@ use crate::containers::Containers;
 use crate::load::Load;
 use crate::node::Node;
 use crate::present::Present;
+use crate::reserved::Reserved;
 use cap_model::{
     Container, HeartbeatReply, Key, LIVE_MAX, NUMBER_END, NoMemory, Reservation, ShortText,
 };
@@ -30,12 +31,13 @@ use std::marker::Model;
 
 /// The nodes that are present and the containers that are live on them, each in order of number, and the reservations in order of
 /// making. Contracts see them as the table of the flat cluster. A reservation is kept in a table of its own as a container that
-/// is not live, whose number is its place in the order of making, and a present node has the one that it holds beside it.
+/// is not live, whose number is its place in the order of making, with how many there are for each key of an application; and a
+/// present node has the one that it holds beside it.
 #[derive(Drop)]
 pub struct Nodes<const K: usize> {
     present: Present<K>,
     live: Containers<K>,
-    reserved: Containers<K>,
+    reserved: Reserved<K>,
     total: Resource<K>,
 }
 
@@ -72,7 +74,7 @@ impl<const K: usize> Nodes<K> {
         Nodes {
             present: Present::new(alloc),
             live: Containers::new(alloc),
-            reserved: Containers::new(alloc),
+            reserved: Reserved::new(alloc),
             total: Resource::zero(),
         }
     }
@@ -171,7 +173,7 @@ impl<const K: usize> Nodes<K> {
     pub fn reservation_count(&self) -> usize
         ensures { result ≡ length self.now.reserved }
     {
-        self.reserved.count()
+        self.reserved.made().count()
     }
 
     /// The reservation that a node holds, the oldest where it holds several, none where it holds none.
@@ -188,11 +190,12 @@ impl<const K: usize> Nodes<K> {
     fn oldest_for(&self, node: u64) -> Option<Reservation<K>>
         ensures { result ≡ find (λ r. r.node == node) self.now.reserved }
     {
-        if self.reserved.count() == 0 {
+        let reserved = self.reserved.made();
+        if reserved.count() == 0 {
             return None;
         }
-        self.reserved.numbers_rise();
-        let Some(container) = self.reserved.next_on_node(node, 0) else {
+        reserved.numbers_rise();
+        let Some(container) = reserved.next_on_node(node, 0) else {
             return None;
         };
         Some(reservation_of(&container))
@@ -202,19 +205,23 @@ impl<const K: usize> Nodes<K> {
     pub fn reservation_of_app(&self, app: u64) -> Option<Reservation<K>>
         ensures { result ≡ find (λ r. r.app == app) self.now.reserved }
     {
-        self.reserved.numbers_rise();
-        let Some(container) = self.reserved.next_of_app(app, 0) else {
+        let reserved = self.reserved.made();
+        reserved.numbers_rise();
+        let Some(container) = reserved.next_of_app(app, 0) else {
             return None;
         };
         Some(reservation_of(&container))
     }
 
     /// The reservation for a key of an application that so many older ones for this key come before, none where there are no more
-    /// than so many. It looks at the reservations for the application alone.
+    /// than so many. It looks at the reservations for the application alone, and at none where none is found.
     pub fn reservation_for(&self, app: u64, key: &Key, older: u32) -> Option<Reservation<K>>
         ensures { result ≡ slice_get (filter (is_for app key.now) self.now.reserved) older }
     {
-        let Some(container) = self.reserved.nth_for(app, key, older) else {
+        if self.reserved_for(app, key) <= older {
+            return None;
+        }
+        let Some(container) = self.reserved.made().nth_for(app, key, older) else {
             return None;
         };
         Some(reservation_of(&container))
@@ -225,18 +232,19 @@ impl<const K: usize> Nodes<K> {
     pub fn reservation_after(&self, app: u64, key: &Key, node: u64) -> Option<Reservation<K>>
         ensures { result ≡ find (is_for app key.now) (made_after node self.now.reserved) }
     {
-        self.reserved.numbers_rise();
-        let Some(earlier) = self.reserved.next_on_node(node, 0) else {
+        let reserved = self.reserved.made();
+        reserved.numbers_rise();
+        let Some(earlier) = reserved.next_on_node(node, 0) else {
             return None;
         };
-        let Some(container) = self.reserved.next_for(app, key, earlier.number()) else {
+        let Some(container) = reserved.next_for(app, key, earlier.number()) else {
             return None;
         };
         Some(reservation_of(&container))
     }
 
-    /// How many reservations there are for a key of an application. It looks at the reservations for the application alone.
-    pub fn reserved_for(&self, app: u64, key: &Key) -> usize
+    /// How many reservations there are for a key of an application. It looks at none of them.
+    pub fn reserved_for(&self, app: u64, key: &Key) -> u32
         ensures { result ≡ length (filter (is_for app key.now) self.now.reserved) }
     {
         self.reserved.count_for(app, key)
@@ -340,7 +348,8 @@ impl<const K: usize> Nodes<K> {
         ensures err { OnErr result (self.new ≡ self.old) }
         ensures sound { IsSound K self.new }
     {
-        if self.reserved.count() >= LIVE_MAX || self.reserved.next() >= NUMBER_END {
+        let reserved = self.reserved.made();
+        if reserved.count() >= LIVE_MAX || reserved.next() >= NUMBER_END {
             return Err(NoMemory);
         }
         match self.reserved.push(app, key, node, resource) {
@@ -363,8 +372,9 @@ impl<const K: usize> Nodes<K> {
         ensures { self.new ≡ record self.old
             { reserved = filter (λ r. not (r.node == node)) self.old.reserved } }
     {
-        self.reserved.numbers_rise();
-        if let Some(container) = self.reserved.next_on_node(node, 0) {
+        let reserved = self.reserved.made();
+        reserved.numbers_rise();
+        if let Some(container) = reserved.next_on_node(node, 0) {
             self.reserved.remove(container.number());
             self.present.change(node, Change::Unreserve);
         }

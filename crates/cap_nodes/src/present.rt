@@ -3,12 +3,12 @@ ghost use Rattle.std.specs.Prelude.{◌≡◌, ◌+◌, ◌<◌, ◌≤◌, [], 
 ghost use Rattle.std.specs.List.{list_any, slice_get};
 ghost use Rattle.std.specs.Option.{option_copied};
 ghost use Rattle.cap_base.specs.Limits.{nodes_max, number_end};
-ghost use Rattle.indexmap.specs.IndexMap.{get};
 ghost use Rattle.cap_base.specs.Texts.{is_text};
 ghost use Rattle.cap_nodes.specs.Changes.{Counts, MayChange, changed_by};
-ghost use Rattle.cap_nodes.specs.Loads.{HasCount, load_at, beaten_load, add_load, with_load};
+ghost use Rattle.cap_nodes.specs.Loads.{load_at, beaten_load, add_load, with_load};
 
 use crate::change::Change;
+use crate::key_counts::KeyCounts;
 use crate::load::Load;
 use crate::node::Node;
 use cap_model::{HeartbeatReply, NoMemory, Reservation, ShortText};
@@ -24,7 +24,7 @@ pub(crate) struct Present<const K: usize> {
     loads: IndexMap<u64, Load<K>>,
     next: u64,
     blank: Load<K>,
-    hosts: IndexMap<ShortText, u32>,
+    hosts: KeyCounts<ShortText>,
 }
 
 impl<const K: usize> Model for Present<K> {
@@ -37,7 +37,7 @@ impl<const K: usize> Model for Present<K> {
     ghost view = { λ t. record { loads = values t.loads; next = t.next } };
 
     ghost invariant = { λ t. IsNumbered (λ p. p.node.number) nodes_max t.loads.entries t.next
-        × AreHosts t.hosts.entries (values t.loads) };
+        × AreHosts t.hosts (values t.loads) };
 }
 
 impl<const K: usize> Present<K> {
@@ -49,7 +49,7 @@ impl<const K: usize> Present<K> {
             loads: IndexMap::new(alloc),
             next: 1,
             blank: Load::blank(),
-            hosts: IndexMap::new(alloc),
+            hosts: KeyCounts::new(alloc),
         }
     }
 
@@ -92,17 +92,16 @@ impl<const K: usize> Present<K> {
         let Some(host) = ShortText::new(host) else {
             return false;
         };
-        hosts.contains_key(&host)
+        hosts.get(&host) > 0
     }
 
-    /// How many have the host.
+    /// How many have the host. And that it is a text.
     fn count_at(&self, host: &ShortText) -> u32
-        ensures { result ≡ count_by (λ p. bytes_eq p.node.host host.now) self.now.loads }
+        ensures value { result ≡ count_by (λ p. bytes_eq p.node.host host.now) self.now.loads }
+        ensures text { is_text 64 host.now ≡ true }
     {
-        match self.hosts.get(host) {
-            Some(count) => *count,
-            None => 0,
-        }
+        let _ = host.as_bytes();
+        self.hosts.get(host)
     }
 
     /// One more, with no container and this reservation, under the next number. `NoMemory` changes nothing.
@@ -131,7 +130,7 @@ impl<const K: usize> Present<K> {
             Ok(()) => {}
             Err(_) => return Err(NoMemory),
         }
-        match set_count(&mut self.hosts, host, count) {
+        match self.hosts.set(host, count) {
             Ok(()) => {}
             Err(_) => return Err(NoMemory),
         }
@@ -178,31 +177,9 @@ impl<const K: usize> Present<K> {
         };
         let host = *load.node().host();
         let count = self.count_at(&host) - 1;
-        let Ok(()) = set_count(&mut self.hosts, &host, count) else {
+        let Ok(()) = self.hosts.set(&host, count) else {
             unreachable!()
         };
         self.loads.shift_remove(&number);
-    }
-}
-
-/// Sets how many nodes have a host. `NoMemory` changes nothing, and comes only where none had it.
-fn set_count(
-    hosts: &mut IndexMap<ShortText, u32>,
-    host: &ShortText,
-    count: u32,
-) -> Result<(), NoMemory>
-    ensures ok { OnOk result (HasCount host.now count hosts.old.entries hosts.new.entries) }
-    ensures err { OnErr result (hosts.new.entries ≡ hosts.old.entries) }
-    ensures absent { OnErr result (get bytes_eq hosts.old host.now ≡ None) }
-    ensures text { is_text 64 host.now ≡ true }
-{
-    let _ = host.as_bytes();
-    if count == 0 {
-        hosts.swap_remove(host);
-        return Ok(());
-    }
-    match hosts.insert(*host, count) {
-        Ok(_) => Ok(()),
-        Err(_) => Err(NoMemory),
     }
 }

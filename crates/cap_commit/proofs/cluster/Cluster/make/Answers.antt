@@ -2,17 +2,17 @@ use Rattle.cap_commit.proofs.Fitting.{amounts_in_cluster, container_in_cluster, 
 use Rattle.cap_commit.proofs.Prelude.{sym, subst, ◌∙◌, sight_of, IsAdmissible, rejected_exactly}
 use Rattle.cap_commit.proofs.cluster.Cluster.make.Goals as goal
 
-pub returns-in-Ok-clause-ok : goal.returns-in-Ok-clause-ok
-returns-in-Ok-clause-ok g c =
+pub returns-in-Ok-clause-step : goal.returns-in-Ok-clause-step
+returns-in-Ok-clause-step g c =
     let sight = sight_of c.args.self.now.flat in
     let may = (rejected_exactly g.row.K sight c.args.proposal.now).0 c.requires.passes in
-    (c.in-Ok.ensures.proposed, (subst (IsAdmissible sight) (sym c.in-Ok.ensures.proposed) may, c.in-Ok.ensures.number, c.in-Ok.ensures.ok))
+    (subst (IsAdmissible sight) (sym c.in-Ok.ensures.proposed) may, c.in-Ok.ensures.number, c.in-Ok.ensures.ok)
 
-pub returns-in-Ok-reserve-clause-ok : goal.returns-in-Ok-reserve-clause-ok
-returns-in-Ok-reserve-clause-ok g c =
+pub returns-in-Ok-reserve-clause-step : goal.returns-in-Ok-reserve-clause-step
+returns-in-Ok-reserve-clause-step g c =
     let sight = sight_of c.args.self.now.flat in
     let may = (rejected_exactly g.row.K sight c.args.proposal.now).0 c.requires.passes in
-    (c.in-Ok-reserve.ensures.proposed, (subst (IsAdmissible sight) (sym c.in-Ok-reserve.ensures.proposed) may, c.in-Ok-reserve.ensures.ok))
+    (subst (IsAdmissible sight) (sym c.in-Ok-reserve.ensures.proposed) may, c.in-Ok-reserve.ensures.ok)
 
 pub grant-requires : goal.grant-requires
 grant-requires g c =

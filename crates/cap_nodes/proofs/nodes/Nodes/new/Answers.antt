@@ -1,4 +1,4 @@
-use Rattle.cap_nodes.proofs.Sizes.{present_fits, containers_fit, amounts_fit}
+use Rattle.cap_nodes.proofs.Sizes.{present_fits, containers_fit, reserved_fits, amounts_fit}
 use Rattle.cap_nodes.proofs.Prelude.{[], sym, true, arith, amount_max, ClusterNode, AreTied}
 use Rattle.cap_nodes.proofs.Sums.{where-none, zeros_within}
 use Rattle.cap_nodes.proofs.nodes.Nodes.new.Goals as goal
@@ -15,7 +15,7 @@ pub new-requires-2 : goal.new-requires-2
 new-requires-2 g c = search containers_fit
 
 pub new-requires-3 : goal.new-requires-3
-new-requires-3 g c = search containers_fit
+new-requires-3 g c = search reserved_fits
 
 pub zero-requires : goal.zero-requires
 zero-requires g c = search amounts_fit

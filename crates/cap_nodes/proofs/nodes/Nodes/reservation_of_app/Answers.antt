@@ -1,4 +1,4 @@
-use Rattle.cap_nodes.proofs.Sizes.{container_fits, containers_fit}
+use Rattle.cap_nodes.proofs.Sizes.{container_fits, containers_fit, reserved_fits}
 use Rattle.cap_nodes.proofs.Prelude.{◌∙◌, sym, Some, None, ◌==◌, Reservation}
 use Rattle.cap_nodes.proofs.Walked.{first_kept}
 use Rattle.cap_nodes.proofs.nodes.Nodes.reservation_of_app.Goals as goal
@@ -6,12 +6,12 @@ use Rattle.cap_nodes.proofs.nodes.Nodes.reservation_of_app.Goals as goal
 pub returns-in_default : goal.returns-in_default
 returns-in_default g c =
     rw (← c.self.view_is)
-    (first_kept (λ (r : Reservation). r.app == c.args.app) c.self.inside.reserved.containers c.self.inside.reserved.next c.numbers_rise.ensures None (sym c.in_default.is ∙ c.next_of_app.ensures))
+    (first_kept (λ (r : Reservation). r.app == c.args.app) c.self.inside.reserved.containers c.self.inside.reserved.next (rw c.made-reserved.ensures at c.numbers_rise.ensures) None (sym c.in_default.is ∙ (rw c.made-reserved.ensures at c.next_of_app.ensures)))
 
 pub returns : goal.returns
 returns g c =
     rw (← c.self.view_is, c.reservation_of.ensures)
-    (first_kept (λ (r : Reservation). r.app == c.args.app) c.self.inside.reserved.containers c.self.inside.reserved.next c.numbers_rise.ensures (Some c.in-Some.container) (sym c.in-Some.is ∙ c.next_of_app.ensures))
+    (first_kept (λ (r : Reservation). r.app == c.args.app) c.self.inside.reserved.containers c.self.inside.reserved.next (rw c.made-reserved.ensures at c.numbers_rise.ensures) (Some c.in-Some.container) (sym c.in-Some.is ∙ (rw c.made-reserved.ensures at c.next_of_app.ensures)))
 
 pub reservation_of-requires : goal.reservation_of-requires
 reservation_of-requires g c = search container_fits
@@ -21,3 +21,6 @@ next_of_app-requires g c = search (containers_fit, container_fits)
 
 pub numbers_rise-requires : goal.numbers_rise-requires
 numbers_rise-requires g c = search containers_fit
+
+pub made-reserved-requires : goal.made-reserved-requires
+made-reserved-requires g c = search (reserved_fits, containers_fit)

@@ -1,5 +1,5 @@
 use Rattle.cap_nodes.proofs.Prelude.{Load, ◌∷◌, ◌++◌, ◌∙◌, [], List, ap, arith, map, refl, map_push, ClusterNode, Container, NodeTable, Reservation, change_load, reservation_of, reserved_load}
-use Rattle.cap_nodes.proofs.Sizes.{containers_fit, present_fits}
+use Rattle.cap_nodes.proofs.Sizes.{containers_fit, present_fits, reserved_fits}
 use Rattle.cap_nodes.proofs.Presents.{if_any}
 use Rattle.cap_nodes.proofs.Changes.{same_nodes, sound_table}
 use Rattle.cap_nodes.proofs.Holding.{holds_reserved}
@@ -40,10 +40,10 @@ returns-clause-sound g c =
 pub push-requires : goal.push-requires
 push-requires g c =
     let few = c.if-count-ge-LIVE_MAX.false in
-    let count = c.count.ensures.value in
+    let count = rw c.made-reserved.ensures at c.count.ensures.value in
     let below = c.if-next-ge-NUMBER_END.false in
-    let next = c.next.ensures in
-    (search containers_fit, ((search), (omega (arith, few, count), omega (arith, below, next))))
+    let next = rw c.made-reserved.ensures at c.next.ensures in
+    (search reserved_fits, ((search), (omega (arith, few, count), omega (arith, below, next))))
 
 pub count-requires : goal.count-requires
 count-requires g c = search containers_fit

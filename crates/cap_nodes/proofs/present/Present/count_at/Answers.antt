@@ -1,9 +1,8 @@
-use Rattle.std.proofs.Common.{◌∙◌}
-use Rattle.cap_nodes.proofs.Presents.{counted, none_counted}
+use Rattle.cap_nodes.proofs.Prelude.{◌∙◌, bytes_eq, values_of}
+use Rattle.cap_nodes.proofs.Counting.{count_is}
+use Rattle.cap_nodes.proofs.Presents.{host_of}
 use Rattle.cap_nodes.proofs.present.Present.count_at.Goals as goal
 
-pub returns-in-Some : goal.returns-in-Some
-returns-in-Some g c = rw (← c.self.view_is) (counted _ _ (c.in-Some.ensures.value ∙ c.self.invariant.1.counts c.args.host.now))
-
-pub returns-in-None : goal.returns-in-None
-returns-in-None g c = rw (← c.self.view_is) (none_counted _ (c.in-None.ensures.value ∙ c.self.invariant.1.counts c.args.host.now))
+pub returns-clause-value : goal.returns-clause-value
+returns-clause-value g c =
+    rw (← c.self.view_is) (c.get.ensures ∙ count_is bytes_eq host_of c.self.inside.hosts (values_of c.self.inside.loads.entries) c.args.host.now c.self.invariant.1.counts)

@@ -10,8 +10,8 @@ invariant_of-self-2 g c =
     let loads = values_of c.self.inside.loads.entries in
     let few : length loads < nodes_max = rw (← c.self.view_is) at c.requires.few in
     let entries = c.in-Ok-insert.ensures.entries ∙ ap (λ (es : List (ℕ × Load)). insert_entry nat_eq es c.self.inside.next load) c.reserve.ensures.entries ∙ insert_entry-new nat_eq c.self.inside.loads c.self.inside.next load (found_by_hash c.self.invariant.0 c.self.inside.next ∙ fresh c.self.invariant.0) in
-    let count : c.count_at-count.result ≡ count_by (with_host c.args.host.now) loads = rw (← c.self.view_is) at c.count_at-count.ensures in
-    (pushed c.self.inside.loads.entries c.insert.new.self.entries c.self.inside.next c.self.inside.hosts.entries c.set_count.new.hosts.entries load c.args.host.now (c.count_at-count.result + 1) (ap (λ (n : ClusterNode). n.host) c.new.ensures) c.self.invariant few (ap (λ (n : ClusterNode). n.number) c.new.ensures) c.in-Ok-set_count.ensures.ok c.set_count.ensures.text (ap (λ n. n + 1) count) entries).present
+    let count : c.count_at-count.result ≡ count_by (with_host c.args.host.now) loads = rw (← c.self.view_is) at c.count_at-count.ensures.value in
+    (pushed c.self.inside.loads.entries c.insert.new.self.entries c.self.inside.next c.self.inside.hosts c.set.new.self load c.args.host.now (c.count_at-count.result + 1) (ap (λ (n : ClusterNode). n.host) c.new.ensures) c.self.invariant few (ap (λ (n : ClusterNode). n.number) c.new.ensures) c.in-Ok-set.ensures.ok c.count_at-count.ensures.text (ap (λ n. n + 1) count) entries).present
 
 pub returns-clause-ok : goal.returns-clause-ok
 returns-clause-ok g c =
@@ -19,6 +19,6 @@ returns-clause-ok g c =
     let loads = values_of c.self.inside.loads.entries in
     let few : length loads < nodes_max = rw (← c.self.view_is) at c.requires.few in
     let entries = c.in-Ok-insert.ensures.entries ∙ ap (λ (es : List (ℕ × Load)). insert_entry nat_eq es c.self.inside.next load) c.reserve.ensures.entries ∙ insert_entry-new nat_eq c.self.inside.loads c.self.inside.next load (found_by_hash c.self.invariant.0 c.self.inside.next ∙ fresh c.self.invariant.0) in
-    let count : c.count_at-count.result ≡ count_by (with_host c.args.host.now) loads = rw (← c.self.view_is) at c.count_at-count.ensures in
-    let values = (pushed c.self.inside.loads.entries c.insert.new.self.entries c.self.inside.next c.self.inside.hosts.entries c.set_count.new.hosts.entries load c.args.host.now (c.count_at-count.result + 1) (ap (λ (n : ClusterNode). n.host) c.new.ensures) c.self.invariant few (ap (λ (n : ClusterNode). n.number) c.new.ensures) c.in-Ok-set_count.ensures.ok c.set_count.ensures.text (ap (λ n. n + 1) count) entries).values in
+    let count : c.count_at-count.result ≡ count_by (with_host c.args.host.now) loads = rw (← c.self.view_is) at c.count_at-count.ensures.value in
+    let values = (pushed c.self.inside.loads.entries c.insert.new.self.entries c.self.inside.next c.self.inside.hosts c.set.new.self load c.args.host.now (c.count_at-count.result + 1) (ap (λ (n : ClusterNode). n.host) c.new.ensures) c.self.invariant few (ap (λ (n : ClusterNode). n.number) c.new.ensures) c.in-Ok-set.ensures.ok c.count_at-count.ensures.text (ap (λ n. n + 1) count) entries).values in
     rw (← c.self.view_is, ← c.new.ensures, ← c.zero.ensures) (refl, ap (λ (xs : List Load). let t : LoadTable = record { loads = xs; next = c.self.inside.next + 1 } in t) values)
