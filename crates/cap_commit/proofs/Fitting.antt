@@ -40,7 +40,7 @@ pub reservation_in_cluster : (n : ℕ) → FitsInMemory (cluster.the_row (param 
 reservation_in_cluster n fits = let whole = container_in_cluster (param 0 (number n)) fits in omega (arith, whole)
 
 pub made_in_cluster : (n : ℕ) → FitsInMemory (cluster.the_row (param 0 (number n))) → FitsInMemory (made.the_row (param 0 (number n)))
-made_in_cluster n fits = let whole = nodes_in_cluster (param 0 (number n)) fits in omega (arith, whole)
+made_in_cluster n fits = let whole = part_fits (layout (cluster.the_row (param 0 (number n)))) (3 ∷ 1 ∷ []) fits in omega (arith, whole)
 
 pub ask_in_cluster : (n : ℕ) → FitsInMemory (cluster.the_row (param 0 (number n))) → FitsInMemory (ask.the_row (param 0 (number n)))
 ask_in_cluster n fits = let whole = limits_in_cluster (param 0 (number n)) fits in omega (arith, whole)

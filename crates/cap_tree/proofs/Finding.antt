@@ -1,22 +1,7 @@
 -- The queue that is found at a path.
 use Rattle.cap_tree.proofs.Prelude.{◌≡◌, ℕ, Bool, true, false, cond, ◌&&◌, List, [], ◌∷◌, ◌++◌, Some, None, refl, sym, ◌∙◌, ap, subst, arith, inl, inr, ◌⊎◌, bytes_eq, nat_eq, ◌==◌, ◌||◌, not, find, starts_with, nat_tests, bytes_eq-Decides, is_under, IsIn, under_itself, leads_to, leads_below, position_of_path, has_below, item_at, HoldsOfItem, IsPosition, Row, PositionsArePaths, queues_of, has_children, IsAt}
+use Rattle.cap_tree.proofs.Finds.{of_path}
 use Rattle.cap_tree.proofs.RowPaths.{at_position, agree, same_row, same_path}
-
--- the row of a path
-
-pub record OfPath (path position : List ℕ) (rows : List Row) : Type 0 where
-  pub row : Row
-  pub member : IsIn row rows
-  pub position_is : row.position ≡ position
-  pub path_is : row.path ≡ path
-
-of_cases : (c : Bool) (path position : List ℕ) (s : Row) (ss : List Row) → bytes_eq s.path path ≡ c → cond c (Some s.position) (position_of_path path ss) ≡ Some position → (position_of_path path ss ≡ Some position → OfPath path position ss) → OfPath path position (s ∷ ss)
-of_cases true path position s ss e h r = record { row = s; member = inl refl; position_is = cc; path_is = (bytes_eq-Decides s.path path).0 e }
-of_cases false path position s ss e h r = let a = r h in record { row = a.row; member = inr a.member; position_is = a.position_is; path_is = a.path_is }
-
-of_path : (path position : List ℕ) (rows : List Row) → position_of_path path rows ≡ Some position → OfPath path position rows
-of_path path position [] h = absurd (cc)
-of_path path position (s ∷ ss) h = of_cases (bytes_eq s.path path) path position s ss refl h (of_path path position ss)
 
 there_cases : (c : Bool) (position : List ℕ) (s r : Row) (ss : List Row) → bytes_eq s.position position ≡ c → r.position ≡ position → (s ≡ r) ⊎ IsIn r ss → (IsIn r ss → IsPosition ss position) → HoldsOfItem (λ _. Unit {0}) (cond c (Some s.item) (item_at position ss))
 there_cases true position s r ss e p m f = tt
@@ -30,10 +15,10 @@ there position r (s ∷ ss) p m = there_cases (bytes_eq s.position position) pos
 pub found_at : (rows : List Row) (path position : List ℕ) → PositionsArePaths rows → position_of_path path rows ≡ Some position → IsAt rows path position
 found_at rows path position a h =
     let r = of_path path position rows h in
-    let p = there position r.row rows r.position_is r.member in
+    let p = there position r.spot rows r.position_is r.member in
     let t = at_position position rows p in
-    let e : bytes_eq t.row.position r.row.position ≡ true = (bytes_eq-Decides t.row.position r.row.position).1 (t.position_is ∙ sym r.position_is) in
-    let f = (bytes_eq-Decides t.row.path r.row.path).0 (sym (same_row rows a t.row r.row t.member r.member) ∙ e) in
+    let e : bytes_eq t.row.position r.spot.position ≡ true = (bytes_eq-Decides t.row.position r.spot.position).1 (t.position_is ∙ sym r.position_is) in
+    let f = (bytes_eq-Decides t.row.path r.spot.path).0 (sym (same_row rows a t.row r.spot t.member r.member) ∙ e) in
     record { present = p; path_is = t.path_is ∙ f ∙ r.path_is }
 
 -- what is below
@@ -74,7 +59,7 @@ same_below t rows (s ∷ ss) a m f =
 pub children_at : (rows : List Row) (path position : List ℕ) → PositionsArePaths rows → position_of_path path rows ≡ Some position → has_children rows path ≡ has_below position rows
 children_at rows path position a h =
     let r = of_path path position rows h in
-    ap (has_children rows) (sym r.path_is) ∙ sym (same_below r.row rows rows a r.member (λ x m. m)) ∙ ap (λ p. has_below p rows) r.position_is
+    ap (has_children rows) (sym r.path_is) ∙ sym (same_below r.spot rows rows a r.member (λ x m. m)) ∙ ap (λ p. has_below p rows) r.position_is
 
 missing_cases : (c : Bool) (path : List ℕ) (s : Row) (ss : List Row) → cond c (Some s.position) (position_of_path path ss) ≡ None → (position_of_path path ss ≡ None → find (λ q. bytes_eq q.path path) (queues_of ss) ≡ None) →
     cond c (Some (Rattle.cap_tree.specs.Rows.settings_of_row s)) (find (λ q. bytes_eq q.path path) (queues_of ss)) ≡ None

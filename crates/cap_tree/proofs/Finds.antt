@@ -1,5 +1,5 @@
 -- What a search for a path finds, as the code tells it.
-use Rattle.cap_tree.proofs.Prelude.{◌≡◌, ℕ, ◌+◌, ◌-◌, ◌≤◌, ◌<◌, Bool, true, false, List, [], ◌∷◌, ◌++◌, zero, suc, map, length, get_or, Option, Some, None, sym, ◌∙◌, ap, arith, ◌≢◌, subst, take, drop, inl, inr, nat_eq, bytes_eq, cond, pointwise, SmallVec, HasRoomFor, Spot, position_of_path, has_below, spots, under, below, IsStart, IsFoundAt, IsMissing, is_parent, Kind, ◌⊎◌, All, AllByRecursion, recursion_from_All, IsIn, in_left, in_right, each_of, of_each, in_map, get_or_default, length-append, length-map}
+use Rattle.cap_tree.proofs.Prelude.{◌≡◌, ℕ, ◌+◌, ◌-◌, ◌≤◌, ◌<◌, Bool, true, false, List, [], ◌∷◌, ◌++◌, zero, suc, map, length, get_or, Option, Some, None, sym, ◌∙◌, ap, arith, ◌≢◌, subst, take, drop, inl, inr, nat_eq, bytes_eq, cond, pointwise, SmallVec, HasRoomFor, Spot, position_of_path, has_below, spots, under, below, IsStart, IsFoundAt, IsMissing, is_parent, Kind, ◌⊎◌, All, AllByRecursion, recursion_from_All, IsIn, bytes_eq-Decides, HasPathsOnce, dot, if◌then◌else◌, nat_tests, ◌==◌, refl, in_left, in_right, each_of, of_each, in_map, get_or_default, length-append, length-map}
 use Rattle.cap_tree.proofs.Looking.{NoneBefore, IsInside, missing_by_name, found_here, missing_by_dot, inside, missing_inside, found_inside, below_inside}
 
 -- the path begins with the name, and this is the rest
@@ -91,3 +91,54 @@ child-lt name item kids value n child e w c =
     let k = ap length c in
     let b = length-in_below (name item) 0 n kids child w in
     omega (arith, v, k, b)
+
+-- the spot of a path
+
+pub record OfPath {T : Type 0} (path position : List ℕ) (ss : List (Spot T)) : Type 0 where
+  pub spot : Spot T
+  pub member : IsIn spot ss
+  pub position_is : spot.position ≡ position
+  pub path_is : spot.path ≡ path
+
+of_cases : {T : Type 0} (c : Bool) (path position : List ℕ) (s : Spot T) (ss : List (Spot T)) → bytes_eq s.path path ≡ c → cond c (Some s.position) (position_of_path path ss) ≡ Some position →
+    (position_of_path path ss ≡ Some position → OfPath path position ss) → OfPath path position (s ∷ ss)
+of_cases true path position s ss e h r = record { spot = s; member = inl refl; position_is = cc; path_is = (bytes_eq-Decides s.path path).0 e }
+of_cases false path position s ss e h r = let a = r h in record { spot = a.spot; member = inr a.member; position_is = a.position_is; path_is = a.path_is }
+
+pub of_path : {T : Type 0} (path position : List ℕ) (ss : List (Spot T)) → position_of_path path ss ≡ Some position → OfPath path position ss
+of_path path position [] h = absurd (cc)
+of_path path position (s ∷ ss) h = of_cases (bytes_eq s.path path) path position s ss refl h (of_path path position ss)
+
+-- where each path is there once, no child before the one in which a path is found has it
+module _ {T : Type 0} (name : T → List ℕ) (item : T) (kids : List (List (Spot T))) (value : List (Spot T)) (e : spots name item kids ≡ value) (once : HasPathsOnce value) (q : List ℕ) where
+  spot_in : (i : ℕ) (kid : List (Spot T)) (d : List (Spot T)) → i < length kids → kid ≡ get_or kids i d → (s : Spot T) → IsIn s kid → IsIn (under (name item) i s) value
+  spot_in i kid d w at s m = subst (IsIn (under (name item) i s)) e (inr (in_below (name item) i 0 i kids d s (omega arith) w (subst (IsIn s) at m)))
+
+  pub none_before : (n : ℕ) (child : List (Spot T)) (p : List ℕ) → n < length kids → child ≡ get_or kids n child → position_of_path q child ≡ Some p → NoneBefore q kids n
+  none_before n child p w at found m d l v = by (position_of_path q (get_or kids m d)) refl
+    where
+      by : (o : Option (List ℕ)) → position_of_path q (get_or kids m d) ≡ o → o ≡ None
+      by None h = refl
+      by (Some r) h =
+          let a = of_path q p child found in
+          let b = of_path q r (get_or kids m d) h in
+          let here = spot_in n child child w at a.spot a.member in
+          let there = spot_in m (get_or kids m d) d v refl b.spot b.member in
+          let same = once (under (name item) n a.spot) (under (name item) m b.spot) here there (ap (λ x. name item ++ dot ∷ x) (a.path_is ∙ sym b.path_is)) in
+          let first : n ≡ m = ap (λ z. get_or z 0 0) same in
+          absurd (omega (arith, first, l))
+
+-- the turns of a search: a guess, and then each child
+pub none_at_first : {T : Type 0} (q : List ℕ) (kids : List (List (Spot T))) → NoneBefore q kids (0 - 1)
+none_at_first q kids m d l w = absurd (omega (arith, l))
+
+pub none_after : {T : Type 0} (q : List ℕ) (kids : List (List (Spot T))) (turn guess i : ℕ) (child : List (Spot T)) → i ≡ (if turn == 0 then guess else turn - 1) → NoneBefore q kids (turn - 1) → child ≡ get_or kids i child →
+    position_of_path q child ≡ None → NoneBefore q kids ((turn + 1) - 1)
+none_after q kids zero guess i child is none c e = λ m d l w. absurd (omega (arith, l))
+none_after q kids (suc turn) guess i child is none c e =
+    let at : i ≡ suc turn - 1 = is ∙ (let some : (suc turn == 0) ≡ false = grind (arith, nat_tests) in ap (λ (b : Bool). if b then guess else suc turn - 1) some) in
+    none_more q kids i ((suc turn + 1) - 1) child (subst (NoneBefore q kids) (sym at) none) c e (omega (arith, at))
+
+pub child_within : (turn guess i count : ℕ) → i ≡ (if turn == 0 then guess else turn - 1) → guess < count → turn < count + 1 → i < count
+child_within zero guess i count is some few = omega (arith, is, some)
+child_within (suc turn) guess i count is some few = let later : (suc turn == 0) ≡ false = grind (arith, nat_tests) in let at = is ∙ ap (λ (b : Bool). if b then guess else suc turn - 1) later in omega (arith, at, few)

@@ -1,5 +1,5 @@
 //! A tree of items over any allocator, seen as a list of its spots (`Branch`): changed, tested, copied and walked.
-ghost use Rattle.std.specs.Prelude.{◌≡◌, ◌+◌, ◌-◌, ◌<◌, ◌≤◌, ◌∷◌, [], ℕ, List, Some, Bool, true, IfSome, IfOk, OnOk, OnErr, MatchOption, map, length, ◌++◌};
+ghost use Rattle.std.specs.Prelude.{◌≡◌, ◌+◌, ◌-◌, ◌<◌, ◌≤◌, ◌==◌, ◌∷◌, [], ℕ, List, Some, Bool, true, IfSome, IfOk, OnOk, OnErr, MatchOption, if◌then◌else◌, map, length, ◌++◌};
 ghost use Rattle.std.specs.List.{All};
 ghost use Rattle.std.specs.Cmp.{IsTotalOrder};
 ghost use Rattle.std.specs.Option.{option_copied};
@@ -163,7 +163,8 @@ impl<T> Test<T> for Every {
 pub struct Branch<T: TreeItem, A: Allocator> {
     item: T,
     children: Vec<Branch<T, A>, A>,
-    // Where it is sorted, the indexes of the children in which something waits, in the order of service.
+    // Indexes of children: where it is sorted, of those in which something waits, in the order of service. Else of those that were added, in the
+    // order of their names, which no proof knows: a search looks there first, and then at all.
     order: Vec<u32, A>,
     is_sorted: bool,
 }
@@ -243,10 +244,16 @@ impl<T: TreeItem + Drop, A: Allocator + Copy> Branch<T, A> {
         ensures tree { AreSpots T.name self.new }
     {
         self.is_sorted = false;
-        match self.children.push(Branch::leaf(alloc, item)) {
+        match self.children.reserve(1) {
             Ok(()) => {}
             Err(_) => return Err(NoMemory),
         }
+        let place = place_of(&self.children, &self.order, item.name());
+        match self.order.insert(place, self.children.len() as u32) {
+            Ok(()) => {}
+            Err(_) => return Err(NoMemory),
+        }
+        self.children.push_reserved(Branch::leaf(alloc, item));
         Ok(())
     }
 
@@ -357,8 +364,9 @@ impl<T: TreeItem + Drop, A: Allocator + Copy> Branch<T, A> {
     }
 
     /// Whether the item at the dotted path has children, and its position, in an empty one with all its room. None where no item
-    /// has the path. It takes no memory.
+    /// has the path. It takes no memory. At each level it looks first at the child that a search by names finds.
     pub fn find(&self, path: &[u8], position: &mut Path<A>) -> Option<Kind>
+        requires once { HasPathsOnce self.now }
         requires short { All (λ s. length s.position ≤ 15) self.now }
         requires start { IsStart position.old }
         ensures { IsFound path.now self.now position.new result }
@@ -375,7 +383,12 @@ impl<T: TreeItem + Drop, A: Allocator + Copy> Branch<T, A> {
                 below
             }
         };
-        for i in 0..self.children.len() {
+        if self.children.is_empty() {
+            return None;
+        }
+        let guess = guess(&self.children, &self.order, below);
+        for turn in 0..self.children.len() + 1 {
+            let i = looked_at(turn, guess);
             let child = &self.children[i];
             if let Some(kind) = child.find(below, position) {
                 let Ok(()) = position.insert(0, i as u32) else {
@@ -584,6 +597,70 @@ impl<T: TreeItem + Drop, A: Allocator + Copy> Branch<T, A> {
             place_cmp T.order self.now p q ≡ Equal → p ≡ q }
     {
         let _ = &self.item;
+    }
+}
+
+/// The index of the child that a search looks at in a turn: a guess first, and then each child.
+fn looked_at(turn: usize, guess: usize) -> usize
+    ensures { result ≡ if turn == 0 then guess else turn - 1 }
+{
+    if turn == 0 { guess } else { turn - 1 }
+}
+
+/// A child that may have the first name of a dotted path: the one that is found in the order of names, else the first.
+fn guess<T: TreeItem + Drop, A: Allocator + Copy>(
+    children: &[Branch<T, A>],
+    order: &[u32],
+    path: &[u8],
+) -> usize
+    requires { 1 ≤ length children.now }
+    ensures { result < length children.now }
+{
+    let place = place_of(children, order, first_name(path));
+    match order.get(place) {
+        Some(index) if (*index as usize) < children.len() => *index as usize,
+        _ => 0,
+    }
+}
+
+/// How many of the children of these indexes, which are in the order of names, have a lesser name, by a binary search.
+fn place_of<T: TreeItem + Drop, A: Allocator + Copy>(
+    children: &[Branch<T, A>],
+    order: &[u32],
+    name: &[u8],
+) -> usize
+    ensures { result ≤ length order.now }
+{
+    let mut low = 0;
+    let mut high = order.len();
+    while low < high {
+        let middle = low + (high - low) / 2;
+        if is_named_before(children, order[middle], name) {
+            low = middle + 1;
+        } else {
+            high = middle;
+        }
+    }
+    low
+}
+
+/// Whether the child of an index has a lesser name: false where there is none.
+fn is_named_before<T: TreeItem + Drop, A: Allocator + Copy>(
+    children: &[Branch<T, A>],
+    index: u32,
+    name: &[u8],
+) -> bool {
+    match children.get(index as usize) {
+        Some(child) => child.top().name().cmp(name).is_lt(),
+        None => false,
+    }
+}
+
+/// The first name of a dotted path.
+fn first_name(path: &[u8]) -> &[u8] {
+    match path.iter().position(|byte| *byte == b'.') {
+        Some(end) => &path[..end],
+        None => path,
     }
 }
 

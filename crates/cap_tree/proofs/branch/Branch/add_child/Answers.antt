@@ -8,31 +8,33 @@ use Rattle.cap_tree.proofs.branch.Branch.add_child.Goals as goal
 pub returns-clause-ok : goal.returns-clause-ok
 returns-clause-ok g c =
     let kids = c.self.inside.children.items in
-    let e : c.push.new.self.items ≡ kids ++ spots g.T.TreeItem.name c.args.item [] ∷ [] = c.in-Ok.ensures.items ∙ ap (λ x. kids ++ x ∷ []) c.leaf.ensures in
+    let e : c.push_reserved.new.self.items ≡ kids ++ spots g.T.TreeItem.name c.args.item [] ∷ [] = c.push_reserved.ensures.items ∙ (λ i. c.reserve.ensures.items i ++ c.leaf.ensures i ∷ []) in
     subst (λ k. IsAdded 0 (g.T.TreeItem.name c.args.item) c.args.item c.args.self.now (spots g.T.TreeItem.name c.self.inside.item k)) (sym e)
     (added_here 0 g.T.TreeItem.name c.self.inside.item c.args.item kids c.args.self.now c.self.view_is refl)
 
-trees_more : (g : _) (c : goal.In-Ok g) → All (AreSpots g.T.TreeItem.name) c.push.new.self.items
+trees_more : (g : _) (c : goal.After-push_reserved g) → All (AreSpots g.T.TreeItem.name) c.push_reserved.new.self.items
 trees_more g c =
     let kids = c.self.inside.children.items in
     let name = g.T.TreeItem.name in
     let more = spots name c.args.item [] in
-    let e : c.push.new.self.items ≡ kids ++ more ∷ [] = c.in-Ok.ensures.items ∙ ap (λ x. kids ++ x ∷ []) c.leaf.ensures in
+    let e : c.push_reserved.new.self.items ≡ kids ++ more ∷ [] = c.push_reserved.ensures.items ∙ (λ i. c.reserve.ensures.items i ++ c.leaf.ensures i ∷ []) in
     subst (All (AreSpots name)) (sym e)
     (All-append (AreSpots name) kids (more ∷ []) c.self.invariant.0.trees (All-cons (AreSpots name) more [] (tree_of name c.args.item [] (All-nil (AreSpots name))) (All-nil (AreSpots name))))
 
 pub returns-clause-tree : goal.returns-clause-tree
-returns-clause-tree g c = tree_of g.T.TreeItem.name c.self.inside.item c.push.new.self.items (trees_more g c)
+returns-clause-tree g c = tree_of g.T.TreeItem.name c.self.inside.item c.push_reserved.new.self.items (trees_more g c)
 
 pub returns-in-Err-clause-tree : goal.returns-in-Err-clause-tree
-returns-in-Err-clause-tree g c =
-    tree_of g.T.TreeItem.name c.self.inside.item c.push.new.self.items (subst (All (AreSpots g.T.TreeItem.name)) (sym c.in-Err.ensures.items) c.self.invariant.0.trees)
+returns-in-Err-clause-tree g c = tree_of g.T.TreeItem.name c.self.inside.item c.reserve.new.self.items (subst (All (AreSpots g.T.TreeItem.name)) (sym c.reserve.ensures.items) c.self.invariant.0.trees)
+
+pub returns-in-Err-insert-clause-tree : goal.returns-in-Err-insert-clause-tree
+returns-in-Err-insert-clause-tree g c = tree_of g.T.TreeItem.name c.self.inside.item c.reserve.new.self.items (subst (All (AreSpots g.T.TreeItem.name)) (sym c.reserve.ensures.items) c.self.invariant.0.trees)
 
 pub invariant_of-self-2 : goal.invariant_of-self-2
 invariant_of-self-2 g c =
     let kids = c.self.inside.children.items in
     let more = spots g.T.TreeItem.name c.args.item [] in
-    let e : c.push.new.self.items ≡ kids ++ more ∷ [] = c.in-Ok.ensures.items ∙ ap (λ x. kids ++ x ∷ []) c.leaf.ensures in
+    let e : c.push_reserved.new.self.items ≡ kids ++ more ∷ [] = c.push_reserved.ensures.items ∙ (λ i. c.reserve.ensures.items i ++ c.leaf.ensures i ∷ []) in
     let fewer = kids-lt g.T.TreeItem.name c.self.inside.item kids c.args.self.now c.self.view_is (trees_filled g.T.TreeItem.name kids c.self.invariant.0.trees) in
     let n = length-append kids (more ∷ []) in
     let l = ap length e in (

@@ -1,10 +1,11 @@
 use Rattle.cap_tree.proofs.Prelude.{◌∙◌, sym, ap, is_parent}
 use Rattle.cap_tree.proofs.Finding.{found_at, children_at, missing}
+use Rattle.cap_tree.proofs.ServiceRows.{rows_once}
 use Rattle.cap_tree.proofs.Sizes.{path_fits, queue_fits}
 use Rattle.cap_tree.proofs.tree.QueueTree.find.Goals as goal
 
 pub find-requires : goal.find-requires
-find-requires g c = (search path_fits, (c.self.invariant.rows_are.short, record { empty = c.new-position.ensures.items; room = c.new-position.ensures.capacity }))
+find-requires g c = (search path_fits, (rows_once c.self.inside.root c.self.invariant.rows_are.paths, (c.self.invariant.rows_are.short, record { empty = c.new-position.ensures.items; room = c.new-position.ensures.capacity })))
 
 pub returns-in-None-clause-found : goal.returns-in-None-clause-found
 returns-in-None-clause-found g c = rw (← c.self.view_is) (missing c.self.inside.root c.args.path.now c.in-None.ensures.is)
