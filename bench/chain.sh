@@ -18,22 +18,33 @@ awk -v most="${1:-}" '
     n = split(below[crate], names, " ")
     for (i = 1; i <= n; i++) is_below(names[i])
   }
+  # the lines of the longest chain that ends with the crate, whatever the order of the lines that name crates
+  function longest(crate, i, n, names, lines, most) {
+    if (!(crate in own)) return 0
+    if (crate in known) return known[crate]
+    n = split(below[crate], names, " ")
+    for (i = 1; i <= n; i++) {
+      lines = longest(names[i])
+      if (lines > most) { most = lines; under[crate] = names[i] }
+    }
+    return known[crate] = own[crate] + most
+  }
   function print_chain(crate) {
     if (crate in under) print_chain(under[crate])
     printf "| `%s` | %d | %d | %d | %d |\n", crate, src[crate], specs[crate], proofs[crate], own[crate]
   }
   {
     src[$1] = $2; specs[$1] = $3; proofs[$1] = $4; own[$1] = $2 + $3 + $4
-    for (i = 5; i <= NF; i++) {
-      below[$1] = below[$1] " " $i
-      if (longest[$i] > longest[$1]) { longest[$1] = longest[$i]; under[$1] = $i }
-    }
-    longest[$1] += own[$1]
+    for (i = 5; i <= NF; i++) below[$1] = below[$1] " " $i
+    if (!$2) { print $1 " has no sources" >"/dev/stderr"; broken = 1 }
   }
   END {
+    if (!("capsched" in own)) { print "crates.txt names no capsched" >"/dev/stderr"; exit 1 }
+    chain = longest("capsched")
     print "| Crate | src | specs | proofs | all |\n|---|---|---|---|---|"
     print_chain("capsched")
     is_below("capsched")
-    printf "the longest chain: %d of %d lines%s\n", longest["capsched"], all, most == "" ? "" : " (at most " most ")"
-    exit !(most == "" || longest["capsched"] <= most + 0)
+    printf "the longest chain: %d of %d lines%s\n", chain, all, most == "" ? "" : " (at most " most ")"
+    if (most != "" && chain > most + 0) { printf "the longest chain has %d lines, and at most %d are wanted\n", chain, most >"/dev/stderr"; broken = 1 }
+    exit broken
   }' "$work/crates"

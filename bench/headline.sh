@@ -51,5 +51,7 @@ grep -v '^#' ../crates.txt | cut -d: -f1 | awk -v most="${1:-}" '
     }
     printf "definitions: %d files, %d lines%s\n", number["definitions"], all["definitions"], most == "" ? "" : " (at most " most ")"
     printf "sources of types: %d files, %d lines\n", number["sources"], all["sources"]
-    exit !(most == "" || all["definitions"] <= most + 0)
+    if (most == "" || all["definitions"] <= most + 0) exit 0
+    printf "the headline speaks of %d lines of definitions, and at most %d are wanted\n", all["definitions"], most >"/dev/stderr"
+    exit 1
   }'

@@ -1,13 +1,14 @@
 #!/usr/bin/env bash
-# Counts the instructions of works by valgrind's callgrind, from the difference of two sizes: a ClusterInfo on one of 16 connections, a heartbeat, an
-# allocate of 20 asks among 256 applications, one of 256 that is refused, a queue that is opened from its lines and shown, a Refresh of 1,024 queues; a
-# turn of a worker (it copies, proposes and commits) in a farm of 512 nodes, 64 leaf queues and 256 applications, one of 32 workers that all copy the same
-# state first, one beside 10,000 masters that ask for nothing, one that begins at a node that holds a reservation, one with 1,023 applications in 64 leaf
-# queues and one in as many, one where each leaf queue's user is at the limit, in the farm and with 1,023 leaf queues, and one where each node holds a
-# reservation and 2,048 asks are open (nothing is admissible in the last three: it copies and proposes); an application of 10,000 that ends; and a node
-# that registers, among the first 128 and after 4,032 others. Prints them a request, with those that clear and copy memory apart, of which callgrind counts
-# about one a byte; fails where both together are past the bound beside each, or more than so many times another work. Needs valgrind, a package of most
-# distributions. Counts depend a little on the C library and the processor.
+# Counts the instructions of works by valgrind's callgrind, from the difference of two sizes: a ClusterInfo on one of 16 connections, a heartbeat, an allocate
+# of 20 asks among 256 applications, one of 256 that is refused, a queue that is opened from its lines and shown, a Refresh of 1,024 queues under 31 parents and
+# under one, in another order; a turn of a worker (it copies, proposes and commits) in a farm of 512 nodes, 64 leaf queues and 256 applications, one of 32
+# workers that all copy the same state first, one beside 10,000 masters that ask for nothing, one that begins at a node that holds a reservation, one with 1,023
+# applications in 64 leaf queues and one in as many, one where each leaf queue's user is at the limit, in the farm and with 1,023 leaf queues, and one where
+# each node holds a reservation and 2,048 asks are open (nothing is admissible in the last three: it copies and proposes); an application of 10,000 that ends,
+# and one with 256 asks; a commit that is rejected beside 1,024 reservations of its application; and a node that registers, among the first 128 and after 4,032
+# others. Prints them a request, with those that clear and copy memory apart, of which callgrind counts about one a byte; fails where both together are past the
+# bound beside each, or more than so many times another work. Needs valgrind, a package of most distributions. Counts depend a little on the C library and the
+# processor.
 . "$(dirname "${BASH_SOURCE[0]}")/common.sh"
 need_valgrind
 build_capsched
@@ -93,28 +94,91 @@ queue() {
     }'
 }
 
-# 1,024 queues, and n Refreshes by their own lines, of some 63 KB
-refresh() {
-  awk -v n="$1" '
-    function says(line) { print "conf " line; lines = lines line "\n" }
+# 1,024 queues, of 31 parents with 32 leaf queues each or flat: 1,023 leaf queues of one parent; and n Refreshes of some 63 KB. Those of the flat tree name its
+# queues in the reverse order
+refresh_of() {
+  awk -v flat="$1" -v n="$2" '
+    function opens(line) { print "conf " line; lines = lines line "\n" }
     function names(letter, count,  list, i) {
       for (i = 1; i <= count; i++) list = list (i > 1 ? "," : "") letter i
+      return list
+    }
+    function turned(letter, count,  list, i) {
+      for (i = count; i >= 1; i--) list = list letter i (i > 1 ? "," : "")
       return list
     }
     BEGIN {
       for (i = 32; i < 127; i++) hex[sprintf("%c", i)] = sprintf("%02x", i)
       hex["\n"] = "0a"
-      says("yarn.scheduler.capacity.root.queues=" names("a", 31))
-      for (a = 1; a <= 31; a++) {
-        parent = "yarn.scheduler.capacity.root.a" a
-        says(parent ".queues=" names("b", 32))
-        says(parent ".capacity=[memory=32768,vcores=32]")
-        for (b = 1; b <= 26; b++) says(parent ".b" b ".capacity=[memory=1024,vcores=1]")
+      key = "yarn.scheduler.capacity.root"
+      if (flat) {
+        print "conf " key ".queues=" names("q", 1023)
+        lines = key ".queues=" turned("q", 1023) "\n"
+        for (i = 1; i <= 850; i++) opens(key ".q" i ".capacity=[memory=1024,vcores=1]")
+      } else {
+        opens(key ".queues=" names("a", 31))
+        for (a = 1; a <= 31; a++) {
+          opens(key ".a" a ".queues=" names("b", 32))
+          opens(key ".a" a ".capacity=[memory=32768,vcores=32]")
+          for (b = 1; b <= 26; b++) opens(key ".a" a ".b" b ".capacity=[memory=1024,vcores=1]")
+        }
       }
       print "open 1"
       size = length(lines)
       for (i = 1; i <= size; i++) text = text hex[substr(lines, i, 1)]
       for (i = 1; i <= n; i++) printf "bytes 1 %08x" "010b%08x" "%08x" "%s\n", 10 + size, i, size, text
+    }'
+}
+refresh() { refresh_of 0 "$1"; }
+refresh_of_flat_tree() { refresh_of 1 "$1"; }
+
+# 512 applications with 256 asks each, of which n end
+finish_master_of_256_asks() {
+  awk -v n="$1" '
+    function request(body) { printf "bytes 1 %08x%s\n", length(body) / 2, body }
+    BEGIN {
+      for (k = 0; k < 256; k++) asks = asks sprintf("%08x%016x%08x%016x%016x%s", 1, k, 2, 1024, 1, "012a")
+      print "conf yarn.scheduler.capacity.root.queues=a"
+      print "open 1"
+      for (i = 1; i <= 512; i++) {
+        request(sprintf("0101%08x", i) "06726f6f742e61" "027531")
+        request(sprintf("0102%08x%016x", i, i))
+        request(sprintf("0103%08x%016x%08x0100", i, i, 0) asks "0000")
+      }
+      for (i = 1; i <= n; i++) request(sprintf("0104%08x%016x", i, i))
+    }'
+}
+
+# 1,024 nodes that hold a container and a reservation of one application, and one node more, for which 32 workers propose the same container; n commits of
+# them after the first are rejected
+commit_beside_reservations() {
+  awk -v n="$1" '
+    function request(body) { printf "bytes 1 %08x%s\n", length(body) / 2, body }
+    function host(i,  name, k, hex) {
+      name = "n" i
+      for (k = 1; k <= length(name); k++) hex = hex sprintf("%02x", index(ascii, substr(name, k, 1)) + 31)
+      return sprintf("%02x", length(name)) hex
+    }
+    function register(i) { request(sprintf("0105%08x", i) host(i) "032f7231" sprintf("%016x%016x", 2048, 2)) }
+    function ask(response, id, count, mb, vcores) { request(sprintf("0103%08x%016x%08x0001%08x%016x%08x%016x%016x", 1, 1, response, 1, id, count, mb, vcores) "012a0000") }
+    function turns(  i) { for (i = 0; i < 1024; i++) print "copy 0\npropose 0 " i "\ncommit 0" }
+    BEGIN {
+      for (i = 32; i < 127; i++) ascii = ascii sprintf("%c", i)
+      print "conf yarn.scheduler.capacity.root.queues=a"
+      print "conf yarn.scheduler.capacity.root.a.capacity=[memory=65536,vcores=64]"
+      print "conf yarn.scheduler.capacity.root.a.user-limit-factor=1000"
+      print "open 1"
+      for (i = 1; i <= 1024; i++) register(i)
+      request(sprintf("0101%08x", 1) "06726f6f742e61" "027531")
+      request(sprintf("0102%08x%016x", 1, 1))
+      ask(0, 9, 1024, 1024, 1)
+      turns()
+      ask(1, 1, 9999, 2048, 2)
+      turns()
+      register(1025)
+      for (w = 0; w < 32; w++) print "copy " w
+      for (w = 0; w < 32; w++) print "propose " w " 1024"
+      for (w = 0; w <= n; w++) print "commit " w
     }'
 }
 
@@ -257,6 +321,8 @@ measure allocate 1024 45000 '^out 1 0000000f0103[0-9a-f]\{8\}00'
 measure refused_allocate 128 350000 '^out 1 000000070103[0-9a-f]\{8\}0a'
 measure queue 480 40000 '^out 1 000000[0-9a-f]\{2\}0108[0-9a-f]\{8\}00'
 measure refresh 8 30000000 '^out 1 00000007010b[0-9a-f]\{8\}00'
+measure refresh_of_flat_tree 8 30000000 '^out 1 00000007010b[0-9a-f]\{8\}00'
+compare refresh_of_flat_tree refresh 1.3
 measure turn 512 220000 '^done 0 grant'
 measure turn_of_32 512 220000 '^done [0-9]* grant'
 measure turn_of_full_farm 64 550000 '^proposed 0 none'
@@ -270,6 +336,8 @@ measure turn_at_limits 16 400000 '^proposed 0 none'
 measure turn_of_flat_tree_at_limits 8 3000000 '^proposed 0 none'
 measure turn_at_a_reservation 16 250000 '^done 0 grant' 1
 measure finish_master 256 10000 '^out 1 0000000b0104[0-9a-f]\{8\}00'
+measure finish_master_of_256_asks 128 100000 '^out 1 0000000b0104[0-9a-f]\{8\}00'
+measure commit_beside_reservations 15 10000 '^rejected'
 measure register_first_nodes 64 10000 '^out 1 0000000f0105[0-9a-f]\{8\}00'
 measure register_last_nodes 64 10000 '^out 1 0000000f0105[0-9a-f]\{8\}00' 3968
 compare register_last_nodes register_first_nodes 1.5
