@@ -14,8 +14,8 @@ NAME = re.compile(r"[A-Za-z_][\w'-]*(?:(?:::|\.)[A-Za-z_][\w'-]*)*(?:\(\.\.\)|\(
 FILE = re.compile(r"[\w.*{},~-]*(?:/[\w.*{},~-]+)+/?|[\w-]+\.(?:md|py|sh|rt|antt|conf|xml|script|out|txt|edit)")
 WORD = re.compile(r"[\w'-]+")
 ENDS = ("", ".rt", ".antt", ".py")  # a module is named without its ending too
-# names of the system, of the shell, of the kit, and of what stood here when it was measured
-OUTSIDE = {"ArrayString", "OnceLock", "echo_run", "fg", "perf", "sched_yield"}
+# names of the system, its packages, of the shell, of the kit, and of what stood here when it was measured
+OUTSIDE = {"ArrayString", "OnceLock", "echo_run", "fg", "perf", "python3-setuptools", "python3-venv", "python3-wheel", "sched_yield"}
 FENCE = re.compile(r"^(?:```|~~~)")
 
 
@@ -65,7 +65,10 @@ def is_there(path, places):
 
 
 def is_known(name, words):
+    """Whether each part of a name stands somewhere. A metric's name is put together from words."""
     parts = re.split(r"::|\.", re.sub(r"\(\.*\)|!$", "", name))
+    if name.startswith("capsched_"):
+        parts = name.split("_")
     return all(part in words or part.strip("'-") in words for part in parts)
 
 

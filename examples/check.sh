@@ -1,7 +1,8 @@
 #!/usr/bin/env bash
-# Looks whether each example is among the scripts that the gate plays, with what it prints, word for word; then plays it, and runs the tests of the client in
-# Python and of what stands here for operators, against the program and daemons on 127.0.0.1. The program is built first where it isn't. With `--built` nothing
-# is built: what the gate has left is run; where there is nothing, the first example is played unproved, and what needs the program is left out, as it says.
+# Looks whether each example is among the scripts that the gate plays, with what it prints, word for word; then plays it,
+# checks the types of the package in Python where mypy is installed, and runs its tests, against the program and daemons
+# on 127.0.0.1. The program is built first where it isn't. With `--built` nothing is built: what the gate has left is run;
+# where there is nothing, the first example is played unproved, and what needs the program is left out, as it says.
 set -euo pipefail
 cd "$(dirname "${BASH_SOURCE[0]}")"
 export PYTHONDONTWRITEBYTECODE=1
@@ -31,8 +32,18 @@ for script in *.script; do
   fi
   echo "examples/$script prints what examples/$name.out has"
 done
-[ -n "$program" ] || exec python3 -m unittest discover -s ../clients/python -k Bytes
+if command -v mypy >/dev/null; then
+  echo "the types of the package in Python, by $(mypy --version):"
+  (cd ../clients/python && mypy --cache-dir /dev/null)
+else
+  echo "mypy is not installed: the types of the package in Python are not checked"
+fi
+if grep -rnE '^.{121,}' ../clients/python/{src,tests} --include='*.py' --include='*.html'; then
+  complain "check.sh: these lines are longer than 120"
+fi
+PYTHONPATH=$(realpath ../clients/python/src)
+export PYTHONPATH
+[ -n "$program" ] || exec python3 -m unittest discover -s ../clients/python/tests -k Bytes -k Formats -k Histories -k StatsFiles
 CAPSCHED=$(realpath "$program")
 export CAPSCHED
-python3 -m unittest discover -s ../clients/python
-python3 -m unittest discover -s .
+python3 -m unittest discover -s ../clients/python/tests

@@ -4,7 +4,8 @@
 A folder has the program's words in `args`, one a line. In `cases` are the standard inputs, each after a line `== NAME` and up to the line feed in front of the next
 such line. In `answers` stands under the same lines what the program must print, then what it must leave on standard error, each line after `! `, and the exit
 status. Then come the scripts of limits.py and, but for the program without it, the daemons of daemon.py, and the cases of runs/replay that served.py plays
-through a daemon. With words of its own this runs the programs that they name, else the one that `./capsched` builds.
+through a daemon. PYTHONPATH must name clients/python/src. With words of its own this runs the programs that they name,
+else the one that `./capsched` builds.
 """
 import difflib
 import io

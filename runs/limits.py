@@ -1,7 +1,8 @@
 #!/usr/bin/env python3
 """Brings `capsched replay` to its limits, and one step past each, by scripts that are made here, and compares what it prints line by line.
 
-The frames are spelled by the client in clients/python. With words this runs the programs that they name, else the one that `./capsched` builds.
+The frames are spelled by the client in clients/python/src, which PYTHONPATH must name. With words this runs the programs
+that they name, else the one that `./capsched` builds.
 """
 import os
 import subprocess
@@ -11,8 +12,13 @@ from itertools import chain
 sys.dont_write_bytecode = True
 HERE = os.path.dirname(os.path.abspath(__file__))
 TOP = os.path.dirname(HERE)
-sys.path.insert(0, f"{TOP}/clients/python")
-from capsched import Allocate, Ask, ClusterInfo, FinishMaster, Heartbeat, NodeGone, QueueInfo, Refresh, RegisterMaster, RegisterNode, Resource, Submit, frame
+try:
+    from capsched import (
+        Allocate, Ask, ClusterInfo, FinishMaster, Heartbeat, NodeGone, QueueInfo, Refresh, RegisterMaster, RegisterNode,
+        Resource, Submit, frame,
+    )
+except ModuleNotFoundError:
+    sys.exit("the client in Python is not found: set PYTHONPATH to clients/python/src")
 
 PROPERTY = "yarn.scheduler.capacity"
 ONE_LEAF = f"{PROPERTY}.root.queues=a"

@@ -1,23 +1,28 @@
-"""Tests of the client: its bytes against docs/FORMATS.md, and its calls against `capsched replay` and a `capsched serve` that the tests start.
+"""Tests of messages and connections: the bytes against docs/FORMATS.md, and the calls against `capsched replay` and a
+`capsched serve` that the tests start.
 
-    python3 -m unittest discover -s clients/python
+    PYTHONPATH=clients/python/src python3 -m unittest discover -s clients/python/tests
 
-The program is crates/capsched/out/capsched, or what CAPSCHED names. Where there is none, the tests that need it fail."""
+The program is crates/capsched/out/capsched, or what CAPSCHED names. Where there is none, the tests that need it
+fail."""
 import re
 import tempfile
+import threading
 import unittest
 
 from capsched import (
-    Allocate, AllocateReply, Allocations, Ask, BadReply, Cause, ClusterInfo, ClusterReport, Connection, End, Ended, Fault, FinishMaster, Grant, Heartbeat, HeartbeatReply,
-    NodeGone, QueueInfo, QueueReport, Refresh, Refusal, Refused, RegisterMaster, RegisterNode, Replay, Resource, SetQueueState, SettingsFault, Submit, frame,
+    Allocate, AllocateReply, Allocations, Ask, BadReply, Cause, ClusterInfo, ClusterReport, Connection, End, Ended,
+    Fault, FinishMaster, Grant, Heartbeat, HeartbeatReply, NodeGone, QueueInfo, QueueReport, Refresh, Refusal, Refused,
+    RegisterMaster, RegisterNode, Replay, Resource, SetQueueState, SettingsFault, Submit, frame,
 )
-from serving import PROGRAM, TOP, serve
+from serving import PROGRAM, TOP, serve, wait_until
 
-SETTINGS = ["yarn.scheduler.capacity.root.queues=default", "yarn.scheduler.capacity.root.default.capacity=[memory=4096,vcores=4]"]
+QUEUES = "yarn.scheduler.capacity.root.queues=default"
+SETTINGS = [QUEUES, "yarn.scheduler.capacity.root.default.capacity=[memory=4096,vcores=4]"]
+GPU_SETTINGS = [QUEUES, "yarn.scheduler.capacity.root.default.capacity=[memory=4096,vcores=4,yarn.io/gpu=2]"]
 NONE, SMALL, LARGE = Resource(0, 0), Resource(1024, 1), Resource(8192, 8)
 ASKED = Ask(1, 0, 2, Resource(1000, 1))
 WITH_GPU, WITH_GPUS = Resource(1024, 1, 1), Resource(8192, 8, 2)
-GPU_SETTINGS = ["yarn.scheduler.capacity.root.queues=default", "yarn.scheduler.capacity.root.default.capacity=[memory=4096,vcores=4,yarn.io/gpu=2]"]
 # the exchange of docs/FORMATS.md in version 1, by call id
 EXCHANGE = {
     1: (RegisterNode("n1", "/r1", LARGE), 1),
@@ -25,7 +30,7 @@ EXCHANGE = {
     3: (RegisterMaster(1), Allocations(SMALL, Resource(8192, 4))),
     4: (Allocate(1, 0, [ASKED]), AllocateReply(1, 0, [], [])),
     5: (Allocate(1, 1), AllocateReply(2, 0, [Grant(1, 1, 0, 1, "n1", SMALL), Grant(2, 1, 0, 1, "n1", SMALL)], [])),
-    6: (Allocate(1, 2, [], [1]), AllocateReply(3, 0, [], [End(1, Cause.Released)])),
+    6: (Allocate(1, 2, [], [1]), AllocateReply(3, 0, [], [End(1, Cause.RELEASED)])),
     7: (Heartbeat(1, 0, [2]), HeartbeatReply(1, 0, 0)),
     9: (FinishMaster(1), 0),
     10: (ClusterInfo(), ClusterReport(1, 0, 0, LARGE, NONE)),
@@ -49,15 +54,17 @@ EXCHANGE_2 = {
 
 
 def documented(version):
-    """The exchange as docs/FORMATS.md spells it in a version: by call id the request and the reply, each with its length."""
+    """The exchange as docs/FORMATS.md spells it in a version: by call id the request and the reply, as frames."""
     with open(f"{TOP}/docs/FORMATS.md", encoding="utf-8") as it:
-        messages = it.read().split("\n## Messages\n")[1].split("\n### Bounds\n")[0].split("\n### The same in version 2\n")[version - 1]
+        messages = it.read().split("\n## Messages\n")[1].split("\n### Bounds\n")[0]
+    messages = messages.split("\n### The same in version 2\n")[version - 1]
     found, into = {}, None
     for line in messages.splitlines():
         cells = [cell.strip() for cell in line.strip("|").split("|")] if line.startswith("|") else []
         if len(cells) != 3:
             continue
-        data = b"".join(bytes.fromhex(it) for it in re.findall(r"`([0-9a-f ]+)`", cells[2]) if len(it) % 2 == 0 or " " in it)
+        digits = (it for it in re.findall(r"`([0-9a-f ]+)`", cells[2]) if len(it) % 2 == 0 or " " in it)
+        data = b"".join(bytes.fromhex(it) for it in digits)
         if cells[0] == "request":
             into = found.setdefault(int.from_bytes(data[6:10], "big"), [b"", b""])
         if into is not None and cells[0] in ("request", "reply"):
@@ -78,6 +85,27 @@ class Bytes(unittest.TestCase):
                 self.assertEqual(int.from_bytes(answered[:4], "big"), len(answered) - 4, request)
                 self.assertEqual(request.reply(answered[4:], call_id, version), result)
 
+    def test_names_of_docs_and_names_of_before(self):
+        """Each refusal, fault and cause has the word of docs/FORMATS.md, which was its name in Python before."""
+        with open(f"{TOP}/docs/FORMATS.md", encoding="utf-8") as it:
+            text = it.read()
+        rows = dict(re.findall(r"^\| (\d+) \| ([A-Z][A-Za-z]+) \|", text, re.M))
+        named = {str(it.value): it.word for it in Refusal if it not in (Refusal.BAD_LENGTH, Refusal.BAD_REQUEST)}
+        self.assertEqual(named, rows)
+        for enum in (Refusal, SettingsFault, Cause):
+            for it in enum:
+                self.assertIs(getattr(enum, it.word), it)
+        self.assertEqual([it.word for it in SettingsFault][:3], ["BadLine", "UnknownKey", "Repeated"])
+        self.assertTrue(all(Refused(it).to_do for it in Refusal))
+
+    def test_what_requests_are_about(self):
+        named = [request.named for request, _ in EXCHANGE.values()]
+        self.assertEqual(named, [
+            "RegisterNode n1", "Submit root.default", "RegisterMaster 1", "Allocate 1", "Allocate 1", "Allocate 1",
+            "Heartbeat 1", "FinishMaster 1", "ClusterInfo", "QueueInfo root.default", "SetQueueState root.default",
+            "NodeGone 1", "Refresh",
+        ])
+
     def test_version_2_where_nothing_is_said(self):
         self.assertEqual(ClusterInfo().payload(3).hex(), "020a00000003")
         self.assertEqual(ClusterInfo().payload(3, 1).hex(), "010a00000003")
@@ -91,21 +119,26 @@ class Bytes(unittest.TestCase):
                 request.payload(1, 1)
 
     def test_resources_in_words(self):
-        for resource, words in ((SMALL, "[1024 MiB, 1 vcore]"), (WITH_GPU, "[1024 MiB, 1 vcore, 1 GPU]"), (WITH_GPUS, "[8192 MiB, 8 vcores, 2 GPUs]")):
+        for resource, words in (
+            (SMALL, "[1024 MiB, 1 vcore]"), (WITH_GPU, "[1024 MiB, 1 vcore, 1 GPU]"),
+            (WITH_GPUS, "[8192 MiB, 8 vcores, 2 GPUs]"),
+        ):
             self.assertEqual(str(resource), words)
 
     def test_a_refusal_has_its_number_and_name(self):
         for version in (1, 2):
             with self.assertRaises(Refused) as raised:
                 Submit("root.default", "u1").reply(bytes.fromhex(f"0{version}010000000e03"), 14, version)
-            self.assertEqual((raised.exception.refusal, raised.exception.refusal.value), (Refusal.QueueStopped, 3))
-            self.assertEqual(str(raised.exception), "Submit: QueueStopped (3)")
+            refused, to_do = raised.exception, "start it with SetQueueState, or submit to another queue"
+            self.assertEqual((refused.refusal, refused.refusal.value, refused.to_do), (Refusal.QUEUE_STOPPED, 3, to_do))
+            self.assertEqual(str(refused), f"Submit root.default: QueueStopped (3); {to_do}")
 
     def test_a_refusal_of_property_lines_has_its_fault(self):
         with self.assertRaises(Refused) as raised:
             Refresh("").reply(bytes.fromhex("020b0000000a" + "11" + "00000000" + "0a"), 10)
-        self.assertEqual((raised.exception.refusal, raised.exception.fault), (Refusal.BadSettings, Fault(0, SettingsFault.NoChild)))
-        self.assertEqual(str(raised.exception), "Refresh: BadSettings (17), line 0: NoChild (10)")
+        refused = raised.exception
+        self.assertEqual((refused.refusal, refused.fault), (Refusal.BAD_SETTINGS, Fault(0, SettingsFault.NO_CHILD)))
+        self.assertTrue(str(refused).startswith("Refresh: BadSettings (17), line 0: NoChild (10); "))
         for bad in ("11", "11" + "00000000", "11" + "00000000" + "0b", "11" + "00000000" + "0a" + "00", "12" + "00"):
             with self.assertRaises(BadReply, msg=bad):
                 Refresh("").reply(bytes.fromhex("020b0000000a" + bad), 10)
@@ -115,7 +148,10 @@ class Bytes(unittest.TestCase):
         self.assertEqual(len(Refresh("#" * 65526).payload(1)), 65536)
 
     def test_faults_answer_any_request(self):
-        for version, status, refusal in ((1, "28", Refusal.BadLength), (1, "29", Refusal.BadRequest), (2, "28", Refusal.BadLength), (2, "29", Refusal.BadRequest)):
+        for version, status, refusal in (
+            (1, "28", Refusal.BAD_LENGTH), (1, "29", Refusal.BAD_REQUEST),
+            (2, "28", Refusal.BAD_LENGTH), (2, "29", Refusal.BAD_REQUEST),
+        ):
             with self.assertRaises(Refused) as raised:
                 ClusterInfo().reply(bytes.fromhex("010000000000" + status), 7, version)
             self.assertEqual(raised.exception.refusal, refusal)
@@ -126,8 +162,10 @@ class Bytes(unittest.TestCase):
         for version, other in (("01", "02"), ("02", "01")):
             good = version + "0400000009" + "00" + "00000000"
             for bad in (
-                other + "0400000009" + "0000000000", "030400000009" + "0000000000", version + "0500000009" + "0000000000", version + "0400000008" + "0000000000",
-                good[:-2], good + "00", version + "040000000911", "010000000000" + "03", version + "040000000903" + "00",
+                other + "0400000009" + "0000000000", "030400000009" + "0000000000",
+                version + "0500000009" + "0000000000", version + "0400000008" + "0000000000",
+                good[:-2], good + "00", version + "040000000911", "010000000000" + "03",
+                version + "040000000903" + "00",
             ):
                 with self.assertRaises(BadReply, msg=bad):
                     FinishMaster(1).reply(bytes.fromhex(bad), 9, int(version))
@@ -135,12 +173,16 @@ class Bytes(unittest.TestCase):
 
     def test_what_no_field_holds_is_not_sent(self):
         most = Ask(2**32 - 1, 2**64 - 1, 2**32 - 1, Resource(2**40, 2**40), "r" * 64)
-        self.assertEqual(len(Allocate(1, 0, [most] * 256, [1] * 1024).payload(1, 1)), 6 + 8 + 4 + 2 + 256 * 97 + 2 + 1024 * 8)
+        payload = Allocate(1, 0, [most] * 256, [1] * 1024).payload(1, 1)
+        self.assertEqual(len(payload), 6 + 8 + 4 + 2 + 256 * 97 + 2 + 1024 * 8)
         most = Ask(2**32 - 1, 2**64 - 1, 2**32 - 1, Resource(2**40, 2**40, 2**40), "r" * 64)
-        self.assertEqual(len(Allocate(1, 0, [most] * 256, [1] * 1024).payload(1)), 6 + 8 + 4 + 2 + 256 * 105 + 2 + 1024 * 8)
+        payload = Allocate(1, 0, [most] * 256, [1] * 1024).payload(1)
+        self.assertEqual(len(payload), 6 + 8 + 4 + 2 + 256 * 105 + 2 + 1024 * 8)
         bad = [
-            Submit("", "u"), Submit("r" * 256, "u"), Submit("root.a", "a b"), Submit("root.ä", "u"), Submit("root", "u" * 65), RegisterMaster(2**64), RegisterMaster(-1),
-            RegisterNode("n", "/r", Resource(2**40 + 1, 1)), RegisterNode("n", "/r", Resource(1, -1)), RegisterNode("n", "/r", Resource(1, 1, 2**40 + 1)),
+            Submit("", "u"), Submit("r" * 256, "u"), Submit("root.a", "a b"), Submit("root.ä", "u"),
+            Submit("root", "u" * 65), RegisterMaster(2**64), RegisterMaster(-1),
+            RegisterNode("n", "/r", Resource(2**40 + 1, 1)), RegisterNode("n", "/r", Resource(1, -1)),
+            RegisterNode("n", "/r", Resource(1, 1, 2**40 + 1)),
             Allocate(1, 2**32), Allocate(1, 0, [ASKED] * 257), Heartbeat(1, 0, [1] * 1025), Refresh("#" * 65527),
         ]
         for request in bad:
@@ -194,13 +236,14 @@ class Replayed(unittest.TestCase):
         on_node = (RegisterNode, Heartbeat, NodeGone)
         for call_id, (request, result) in EXCHANGE.items():
             if call_id == 5:
-                self.assertEqual([replay.turn(0) for _ in range(3)], [["done", "0", "grant", "1"], ["done", "0", "grant", "2"], ["idle"]])
+                turns = [" ".join(replay.turn(0)) for _ in range(3)]
+                self.assertEqual(turns, ["done 0 grant 1", "done 0 grant 2", "idle"])
             if call_id == 9:
-                self.assertEqual(master.allocate(1, 3).ends, [End(2, Cause.EndedOnNode)])
+                self.assertEqual(master.allocate(1, 3).ends, [End(2, Cause.ENDED_ON_NODE)])
             if call_id == 15:
                 with self.assertRaises(Refused) as raised:
                     master.submit("root.default", "u1")
-                self.assertEqual(raised.exception.refusal, Refusal.QueueStopped)
+                self.assertEqual(raised.exception.refusal, Refusal.QUEUE_STOPPED)
             self.assertEqual((node if isinstance(request, on_node) else master).call(request), result, request)
         self.assertEqual(master.queue_info("root.default"), QueueReport(True, True, NONE, None, NONE, 0))
 
@@ -209,9 +252,9 @@ class Replayed(unittest.TestCase):
         operator = replay.connect()
         before = operator.queue_info("root.default")
         for lines, refusal, fault in (
-            ("", Refusal.BadSettings, Fault(0, SettingsFault.NoChild)),
-            (SETTINGS[0] + "\nx", Refusal.BadSettings, Fault(2, SettingsFault.BadLine)),
-            ("yarn.scheduler.capacity.root.queues=other", Refusal.OtherQueues, None),
+            ("", Refusal.BAD_SETTINGS, Fault(0, SettingsFault.NO_CHILD)),
+            (SETTINGS[0] + "\nx", Refusal.BAD_SETTINGS, Fault(2, SettingsFault.BAD_LINE)),
+            ("yarn.scheduler.capacity.root.queues=other", Refusal.OTHER_QUEUES, None),
         ):
             with self.assertRaises(Refused) as raised:
                 operator.refresh(lines)
@@ -238,6 +281,36 @@ class Replayed(unittest.TestCase):
         for n, pending in reversed(list(enumerate(waiting))):
             self.assertIsInstance(pending.result(), ClusterReport if n % 2 else QueueReport)
 
+    def test_many_lines_in_flight(self):
+        replay = self.cluster()
+        # should either side wait for the other, the program is ended, and the test fails
+        timer = threading.Timer(30, replay._process.kill)
+        timer.start()
+        self.addCleanup(timer.cancel)
+        for number in range(50_000):
+            replay.send(f"copy {number % 64}")
+            replay.send("commit 64")
+        replay.flush()
+        printed = [replay.read_line() for _ in range(100_000)]
+        self.assertEqual(printed[::2], [f"copied {number % 64}" for number in range(50_000)])
+        self.assertEqual(set(printed[1::2]), {"idle"})
+        self.assertEqual(replay.turn(0), ["idle"])
+        self.assertEqual(replay.close(), 0)
+
+    def test_its_last_words(self):
+        replay = self.cluster()
+        for line in ("copy 1", "copies", "copy 2"):
+            replay.send(line)
+        self.assertEqual(replay.read_line(), "copied 1")
+        with self.assertRaisesRegex(Ended, "the replay has ended: bad line 4"):
+            replay.read_line()
+        for _ in range(2):
+            with self.assertRaises(Ended):
+                replay.read_line()
+        with self.assertRaises(Ended):
+            replay.send("copy 3")
+        self.assertEqual(replay.close(), 2)
+
     def test_faults_of_the_settings_end_it(self):
         with self.assertRaisesRegex(Ended, "config 1 2"):
             self.cluster(["yarn.scheduler.capacity.root.acl_submit_applications=*"]).connect()
@@ -260,18 +333,25 @@ class Served(unittest.TestCase):
             app = master.submit("root.default", "ann")
             self.assertEqual(master.register_master(app).minimum, SMALL)
             response, grants = master.allocate(app, 0, [ASKED]).response, []
-            while len(grants) < 2:
+
+            def are_granted():
+                nonlocal response
                 reply = master.allocate(app, response)
-                response, grants = reply.response, grants + reply.grants
-            self.assertEqual([(it.container, it.node, it.host, it.resource) for it in grants], [(1, number, "n1", SMALL), (2, number, "n1", SMALL)])
+                response = reply.response
+                grants.extend(reply.grants)
+                return len(grants) >= 2
+
+            wait_until(self, are_granted, "two containers are not granted")
+            told = [(it.container, it.node, it.host, it.resource) for it in grants]
+            self.assertEqual(told, [(1, number, "n1", SMALL), (2, number, "n1", SMALL)])
             self.assertEqual(master.queue_info("root.default").used, Resource(2048, 2))
             self.assertEqual(node.heartbeat(number, 0, [1]), HeartbeatReply(1, 0, 1))
             self.assertEqual(node.heartbeat(number, 0, [1]), HeartbeatReply(1, 0, 1))
-            self.assertEqual(master.allocate(app, response).ends, [End(1, Cause.EndedOnNode)])
+            self.assertEqual(master.allocate(app, response).ends, [End(1, Cause.ENDED_ON_NODE)])
             self.assertEqual(master.finish_master(app), 1)
             with self.assertRaises(Refused) as raised:
                 master.allocate(app, response)
-            self.assertEqual(raised.exception.refusal, Refusal.UnknownApplication)
+            self.assertEqual(raised.exception.refusal, Refusal.UNKNOWN_APPLICATION)
         self.assertRegex(daemon.stdout.readline(), r"^closed epochs=1 entries=\d+\n$")
         self.assertEqual(daemon.wait(20), 0)
 
@@ -281,13 +361,19 @@ class Served(unittest.TestCase):
             new.register_node("n1", "/r1", WITH_GPUS)
             app = new.submit("root.default", "ann")
             self.assertEqual(new.register_master(app).maximum, Resource(8192, 4, 2**40))
-            response, grants = new.allocate(app, 0, [Ask(1, 0, 1, WITH_GPU)]).response, []
-            while not grants:
-                before, reply = response, new.allocate(app, response)
-                response, grants = reply.response, reply.grants
-            self.assertEqual([it.resource for it in grants], [WITH_GPU])
-            self.assertEqual([it.resource for it in old.allocate(app, before).grants], [SMALL])
-            self.assertEqual((new.queue_info("root.default").used, old.queue_info("root.default").used), (WITH_GPU, SMALL))
+            response, replies = 0, [new.allocate(app, 0, [Ask(1, 0, 1, WITH_GPU)])]
+
+            def is_granted():
+                nonlocal response
+                response = replies[-1].response
+                replies.append(new.allocate(app, response))
+                return replies[-1].grants
+
+            wait_until(self, is_granted, "a container with a GPU is not granted")
+            self.assertEqual([it.resource for it in replies[-1].grants], [WITH_GPU])
+            self.assertEqual([it.resource for it in old.allocate(app, response).grants], [SMALL])
+            used = [it.queue_info("root.default").used for it in (new, old)]
+            self.assertEqual(used, [WITH_GPU, SMALL])
             self.assertEqual((new.cluster_info().total, old.cluster_info().total), (WITH_GPUS, LARGE))
         self.assertEqual(daemon.wait(20), 0)
 
@@ -308,7 +394,7 @@ class Served(unittest.TestCase):
             self.assertEqual(pending.result().nodes, 0)
             with self.assertRaises(Refused) as raised:
                 late.result()
-            self.assertEqual(raised.exception.refusal, Refusal.BadLength)
+            self.assertEqual(raised.exception.refusal, Refusal.BAD_LENGTH)
             with self.assertRaises(ConnectionError):
                 later.result()
         self.assertEqual(daemon.wait(20), 0)
