@@ -67,9 +67,8 @@ def is_there(path, places):
 def is_known(name, words):
     """Whether each part of a name stands somewhere. A metric's name is put together from words."""
     parts = re.split(r"::|\.", re.sub(r"\(\.*\)|!$", "", name))
-    if name.startswith("capsched_"):
-        parts = name.split("_")
-    return all(part in words or part.strip("'-") in words for part in parts)
+    is_metric = name.startswith("capsched_") and all(word in words for word in name.split("_"))
+    return is_metric or all(part in words or part.strip("'-") in words for part in parts)
 
 
 def missing(files):
