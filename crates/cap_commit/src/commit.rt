@@ -104,11 +104,7 @@ impl<const K: usize> Cluster<K> {
 
     /// Makes a proposal that `admit` has found admissible, and takes back the room that it said: the grant or the reservation is the
     /// result. `NoMemory` changes nothing that calls see.
-    pub fn make(
-        &mut self,
-        proposal: &Proposal<K>,
-        old: &Resource<K>,
-    ) -> Result<Made<K>, NoMemory>
+    pub fn make(&mut self, proposal: &Proposal<K>, old: &Resource<K>) -> Result<Made<K>, NoMemory>
         requires passes { reason_of (sight_of self.old.flat) proposal.now ≡ None }
         requires old { old.now ≡ taken_back (sight_of self.old.flat) proposal.now }
         ensures of { IfOk result (λ made. IsOf proposal.now (event_of_made made)) }
