@@ -338,6 +338,14 @@ def added(one, other):
 
 
 class Failing(Case):
+    def test_a_trace_as_a_spreadsheet_writes_it(self):
+        """With a mark of the byte order, other ends of lines, quotes, an empty line and columns in another order."""
+        trace = self.write("jobs.csv", "\ufeffqueue,submit_ms,user,containers,duration_ms,memory,vcores\r",
+                           '"a", 3 ,ann,1,"100",1024,1\r', "\r")
+        status, _, said = self.run_main("--config", self.write("now.conf", *TWO_QUEUES), "--jobs", trace, "--count", 1,
+                                        "--out", f"{self.folder}/out")
+        self.assertEqual((status, said, self.times()), (0, "", {"1": (3, 3, 103)}))
+
     def test_a_queue_that_is_not_there(self):
         status, printed, said = self.play({"now": TWO_QUEUES}, ["0,a,ann,1,100,1024,1,0,1", "5,c,ann,1,100,1024,1,0,1"],
                                           "--node", "8192,8", "--count", 1)

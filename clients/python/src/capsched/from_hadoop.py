@@ -1,7 +1,8 @@
 """Writes the property lines of capsched that say what a Hadoop configuration says, where they can.
 
     capsched-from-hadoop capacity-scheduler.xml [yarn-site.xml ..] [--total 1048576,512] > cluster.conf
- Property lines go to standard output. With `--total`, the memory (MiB), vcores and perhaps GPUs of the whole cluster,
+
+Property lines go to standard output. With `--total`, the memory (MiB), vcores and perhaps GPUs of the whole cluster,
 capacities in percent become amounts. Every property of the scheduler that capsched leaves out is named on standard
 error with its value, why it is left out, and what stands in its place if anything does; the status is then 1, and also
 where a guarantee comes to 0. It is 0 where all was said, and 2 where a file is no configuration."""

@@ -24,7 +24,6 @@ from .simulation import Simulation
 from .traces import Notes, TraceFault, read_jobs, read_node_count, read_nodes
 
 NODE = Resource(10_240, 10)  # where nothing says what a node has, as in Hadoop's simulator
-NAMED_MAX = 10  # how many jobs are named for each of the settings
 NODES_MAX = 4096
 
 

@@ -11,7 +11,7 @@ from .applications import Application
 from .jobs import Amounts, Job
 
 SAMPLES_MAX = 1000  # of a queue over time
-ROWS_MAX = 200_000  # of all queues together
+ROWS_MAX = 100_000  # of all queues together
 
 
 @dataclass
@@ -79,7 +79,7 @@ class Results:
     def __init__(self, connection: Connection, paths: Sequence[str], begin: int, every: int,
                  write: Callable[[JobRow], None]) -> None:
         """`paths` are all queues, each before those below it. `begin` is when the first job comes, and a sample is
-        taken each `every` milliseconds from then on, and each second of them is dropped whenever there are too many.
+        taken each `every` milliseconds from then on, of which every second one is dropped whenever there are too many.
         `write` is called for each job."""
         self._connection, self.paths, self.begin, self.end = connection, list(paths), begin, begin
         self.reports = dict(zip(paths, self._report()))

@@ -1,5 +1,6 @@
 """Plays jobs through the scheduler in simulated time.
- At each moment in which something happens, first the nodes that beat then report the containers that have ended, in
+
+At each moment in which something happens, first the nodes that beat then report the containers that have ended, in
 order of node; then the jobs that come then are submitted, in the order of the trace; then the worker takes turns until
 it proposes nothing. A container begins when it is granted, and its room is free once its node has reported its end."""
 from __future__ import annotations
@@ -20,6 +21,7 @@ from .settings import Limits
 
 TURNS_FIRST, TURNS_MAX = 8, 64  # how many turns are sent at once, at first and later
 NEWS_MAX = 64  # grants, or ends, in one reply to an Allocate
+REPLIES_MAX = 1000  # to heartbeats, of which so many are not read before others
 RESPONSES = 1 << 31
 UNBOUNDED = Allocations(Resource(0, 0), Resource(AMOUNT_MAX, AMOUNT_MAX, AMOUNT_MAX))
 
@@ -65,6 +67,8 @@ class Simulation:
             if times == [None, None]:
                 break
             now = min(time for time in times if time is not None)
+            if len(self._reporting) > REPLIES_MAX:
+                self._read_replies()
             self._show(now)
             self._results.sample_before(now)
             self._inform()
@@ -86,8 +90,9 @@ class Simulation:
                 self._carry_out(proposal, now)
             taken += len(made)
             if is_done and not self._ask_more():
-                break
+                return
             count = max(taken, 2)
+        self._ask_more()
 
     def _report_ends(self, now: int) -> int:
         """The nodes that beat now report what has ended; applications whose containers have all ended finish. How many

@@ -67,7 +67,7 @@ class Notes:
 def read_jobs(file: str, notes: Notes, hosts: Set[str]) -> Iterator[Job]:
     """The jobs of a trace, in its order. A host that is asked for and not among `hosts` is passed over.
     TraceFault where it can't be read, OSError where the file can't."""
-    with open(file, encoding="utf-8", newline="") as text:
+    with open(file, encoding="utf-8-sig", newline="") as text:
         try:
             if is_json(text):
                 yield from read_sls_jobs(file, text, notes, hosts)
@@ -177,7 +177,7 @@ def joined(tasks: List[Task]) -> List[Task]:
 def read_node_count(file: str) -> Optional[int]:
     """How many nodes a trace of Hadoop's simulator says that it has (`num.nodes`), or None. TraceFault, OSError as
     `read_jobs`."""
-    with open(file, encoding="utf-8", newline="") as text:
+    with open(file, encoding="utf-8-sig", newline="") as text:
         if is_json(text):
             for line, found in read_objects(file, text):
                 if "num.nodes" in found:
@@ -189,7 +189,7 @@ def read_nodes(file: str, usual: Resource, notes: Notes) -> List[NodeSpec]:
     """The nodes of a file of Hadoop's simulator: objects with `rack` and `nodes`; `usual` is what a node has where it
     doesn't say. TraceFault where it can't be read or a host stands twice, OSError where the file can't."""
     nodes: List[NodeSpec] = []
-    with open(file, encoding="utf-8", newline="") as text:
+    with open(file, encoding="utf-8-sig", newline="") as text:
         for line, found in read_objects(file, text):
             where = f"{file}: line {line}"
             if not isinstance(found.get("nodes"), list):
