@@ -45,7 +45,7 @@ second_equal Less b h = absurd (cc h)
 second_equal Greater b h = absurd (cc h)
 
 module _ {K : ℕ} (sight : Sight K) where
-  one_on_node : (n : ℕ) (a b : Option NodeProposal) → IsNodeChoice sight n a → IsNodeChoice sight n b → a ≡ b
+  pub one_on_node : (n : ℕ) (a b : Option NodeProposal) → IsNodeChoice sight n a → IsNodeChoice sight n b → a ≡ b
   one_on_node n None None h g = refl
   one_on_node n None (Some q) h g = absurd (h q g.0 g.1)
   one_on_node n (Some p) None h g = absurd (g p h.0 h.1)

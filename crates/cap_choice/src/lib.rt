@@ -3,5 +3,7 @@
 
 mod admission;
 mod choice;
+mod laws;
 
 pub use choice::propose_on;
+pub use laws::choice_is_unique;
