@@ -1,7 +1,6 @@
 -- What a snapshot is made of, and what it is taken from, are no larger than memory.
 use Rattle.cap_copy.proofs.Prelude.{ℕ, ◌≤◌, [], ◌∷◌, arith, FitsInMemory, RattleType, Ghosts, resources_max, part_fits, container_fits}
 use denote.Param.{layout, number, param}
-use Rattle.cap_model.specs.contracts.ask.Ask as ask
 use Rattle.cap_model.specs.contracts.container.Reservation as reservation
 use Rattle.cap_vector.specs.contracts.vector.Amounts as amounts
 use Rattle.smallvec.specs.contracts.small_vec.SmallVec as path

@@ -1,5 +1,5 @@
 -- Where the asks of each application lie, and how such a range is found.
-use Rattle.cap_copy.proofs.Prelude.{◌≡◌, ◌≢◌, ℕ, zero, suc, ◌+◌, ◌<◌, ◌≤◌, List, [], ◌∷◌, ◌++◌, length, length-append, map, refl, sym, ◌∙◌, ap, subst, arith, inl, inr, ◌⊎◌, Some, None, option_map, slice_get, set, cases_lt, length-map, same_Some, slice_get-map, slice_get_within, IsIn, AskRange, AskEntry, AreApart, AreInside, AreRanges, IsRangeOf, SeenApp, range_in}
+use Rattle.cap_copy.proofs.Prelude.{◌≡◌, ◌≢◌, ℕ, zero, suc, ◌+◌, ◌<◌, ◌≤◌, List, [], ◌∷◌, ◌++◌, length, length-append, map, refl, sym, ◌∙◌, ap, subst, arith, inl, inr, ◌⊎◌, Some, None, option_map, slice_get, set, cases_lt, length-map, same_Some, slice_get-map, slice_get_within, IsIn, AskRange, AskEntry, AreApart, AreInside, AreRanges, IsIndexOf, IsRangeOf, SeenApp, range_in}
 use Rattle.cap_copy.proofs.LoopSteps.{slice_get_in}
 
 -- what stands at an index of a list in which one element was replaced
@@ -81,7 +81,7 @@ inside_none asks ranges app filled none j e at own =
 
 -- the search for an application among those whose numbers rise
 module _ (apps : List SeenApp) (app : ℕ) (apart : AreApart (map range_in apps)) where
-  range_at : (i : ℕ) (a : SeenApp) → slice_get apps i ≡ Some a → slice_get (map range_in apps) i ≡ Some (range_in a)
+  pub range_at : (i : ℕ) (a : SeenApp) → slice_get apps i ≡ Some a → slice_get (map range_in apps) i ≡ Some (range_in a)
   range_at i a at = slice_get-map range_in apps i ∙ ap (option_map range_in) at
 
   same_range : (i j : ℕ) (a : SeenApp) (b : AskRange) → i ≡ j → slice_get apps i ≡ Some a → slice_get (map range_in apps) j ≡ Some b → range_in a ≡ b
@@ -112,7 +112,7 @@ module _ (apps : List SeenApp) (app : ℕ) (apart : AreApart (map range_in apps)
   )
 
   -- it is none of those before an index, and there are no others; or neither the one at the index nor one after it
-  pub none_past : (m : ℕ) → length apps ≤ m → ((i : ℕ) (b : AskRange) → i < m → slice_get (map range_in apps) i ≡ Some b → b.app < app) → IsRangeOf app (map range_in apps) None
+  pub none_past : (m : ℕ) → length apps ≤ m → ((i : ℕ) (b : AskRange) → i < m → slice_get (map range_in apps) i ≡ Some b → b.app < app) → IsIndexOf app (map range_in apps) None
   none_past m past below i b there e =
       let w = slice_get_within (map range_in apps) i b there in
       let n = length-map apps range_in in
@@ -120,7 +120,7 @@ module _ (apps : List SeenApp) (app : ℕ) (apart : AreApart (map range_in apps)
       omega (arith, less, e)
 
   pub none_at : (m : ℕ) (a : SeenApp) → slice_get apps m ≡ Some a → ((i : ℕ) (b : AskRange) → i < m → slice_get (map range_in apps) i ≡ Some b → b.app < app) → ((i : ℕ) (b : AskRange) → m ≤ i → slice_get (map range_in apps) i ≡ Some b → app ≤ b.app) →
-      (a.held.app.number ≡ app → ⊥) → IsRangeOf app (map range_in apps) None
+      (a.held.app.number ≡ app → ⊥) → IsIndexOf app (map range_in apps) None
   none_at m a at below above other i b there e = elim (cases_lt i m) [
     | inl l ↦ let less = below i b l there in omega (arith, less, e)
     | inr g ↦ elim (cases_lt m i) [

@@ -1,6 +1,5 @@
 -- What asks want beside the reservations of nodes, one node after the other.
-use Rattle.cap_copy.proofs.Prelude.{◌≡◌, ℕ, suc, ◌+◌, ◌-◌, ◌<◌, ◌≤◌, Bool, true, false, cond, List, [], ◌∷◌, length, refl, sym, ◌∙◌, ap, subst, arith, inl, inr, take, Option, Some, None, ◌==◌, map, option_map, nat_lt, slice_get, set, and_parts, eq-eqb, eqb-true, nat_tests, length-map, count_by_more_no, count_by_more_yes, get_or_from_slice_get, same_Some, slice_get-map, slice_get_within, holds_of, map_same, map_twice, same_key, Key, Reservation, is_for, NodeSight, AskRange, AskEntry, AreInside, AreRanges, IsRangeOf, LiesIn, beside, beside_one, reserved_on}
-use Rattle.cap_copy.proofs.Ranging.{set_here, set_other}
+use Rattle.cap_copy.proofs.Prelude.{◌≡◌, ℕ, suc, ◌+◌, ◌-◌, ◌<◌, ◌≤◌, Bool, true, false, cond, List, [], ◌∷◌, length, refl, sym, ◌∙◌, ap, subst, arith, take, Option, Some, None, ◌==◌, map, option_map, nat_lt, slice_get, and_parts, eqb-true, nat_tests, length-map, count_by_more_no, count_by_more_yes, get_or_from_slice_get, same_Some, slice_get-map, slice_get_within, holds_of, map_same, map_twice, same_key, Key, Reservation, is_for, NodeSight, AskRange, AskEntry, AreInside, AreRanges, IsRangeOf, LiesIn, beside, beside_one, reserved_on}
 
 -- two lists are the same where each index has the same in both
 pub same_slices : {A : Type 0} (xs ys : List A) → ((i : ℕ) → slice_get xs i ≡ slice_get ys i) → xs ≡ ys

@@ -1,5 +1,5 @@
 -- Applications as a snapshot keeps them, and their asks among those of all.
-use Rattle.cap_copy.proofs.Prelude.{◌≡◌, ℕ, ◌+◌, ◌-◌, ◌≤◌, List, [], ◌∷◌, ◌++◌, length, length-append, inl, inr, map, take, drop, refl, sym, ◌∙◌, ap, subst, arith, Option, Some, None, option_map, ◌&&◌, list_all, slice_get, take-map, option_map_or, drop-append-le, drop-map, length-drop, length-map, length-take-le, map-append, map_push, take-append-le, take_all, flat_map-cons, All-push, slice_get-map, drop-append_seam, amounts_exchanged, holds_of, fits_maximum, fits_user_limit, IsRising, IsIn, of_map, Ask, App, NodeSight, Queue, stays_in_maximum, use_of, user_row, Row, items_to, HoldsOfItem, IsPosition, item_at, path_at, HeldApp, stays_in_limits, limit_in, limit_of, no_limit, queue_use, AreSeen, HaveAsks, SeenApp, range_in, user_used, QueueUse, asks_between, stays_within, AskRange, AskEntry, AreApart, AreRanges, ask_entries, ask_entry, asks_at, asks_of, beside, reserved_on}
+use Rattle.cap_copy.proofs.Prelude.{◌≡◌, ℕ, ◌+◌, ◌-◌, ◌≤◌, List, [], ◌∷◌, ◌++◌, length, length-append, inl, inr, map, take, drop, refl, sym, ◌∙◌, ap, subst, arith, Option, Some, None, option_map, slice_get, take-map, option_map_or, drop-append-le, drop-map, length-drop, length-map, length-take-le, map-append, map_push, take-append-le, take_all, flat_map-cons, All-push, slice_get-map, drop-append_seam, IsRising, IsIn, of_map, Ask, App, NodeSight, Row, HeldApp, AreSeen, HaveAsks, SeenApp, range_in, user_used, asks_between, AskRange, AskEntry, AreApart, AreRanges, ask_entries, ask_entry, asks_at, asks_of, beside, reserved_on}
 use Rattle.cap_copy.proofs.Blocks.{rising_apart}
 use Rattle.cap_copy.proofs.LoopSteps.{one_more}
 use Rattle.cap_copy.proofs.Ranging.{pushed, ranges_more}
@@ -59,25 +59,6 @@ none_seen K rows = record {
   have = λ i a at. absurd (cc at);
   ranges = record { ends = λ i b at. absurd (cc at); each = λ j e lt at. absurd (cc at) };
 }
-
--- the limits of an application are those of the queues on its way and of its user
-all_within : (old new : List ℕ) (qs : List Queue) → list_all (λ (u : QueueUse). fits_maximum u.maximum (amounts_exchanged old new u.used)) (map queue_use qs) ≡ list_all (stays_in_maximum old new) qs
-all_within old new [] = refl
-all_within old new (q ∷ qs) = ap (λ b. stays_in_maximum old new q && b) (all_within old new qs)
-
-pub within_limits : (K : ℕ) (old new : List ℕ) (rows : List Row) (seen : List SeenApp) (index : ℕ) (a : SeenApp) → slice_get seen index ≡ Some a → IsPosition rows a.held.account.position → a.used ≡ user_used K rows a.held →
-    stays_in_limits a.used old new a.held.account.position rows ≡ holds_of (stays_within old new) (slice_get (map (λ (x : SeenApp). limit_of K rows x.held) seen) index)
-within_limits K old new rows seen index a at there used =
-    by (item_at a.held.account.position rows) refl there
-    ∙ sym (ap (holds_of (stays_within old new)) (slice_get-map (λ (x : SeenApp). limit_of K rows x.held) seen index ∙ ap (option_map (λ (x : SeenApp). limit_of K rows x.held)) at))
-  where
-    by : (o : Option Queue) → item_at a.held.account.position rows ≡ o → HoldsOfItem (λ _. Unit {0}) o → stays_in_limits a.used old new a.held.account.position rows ≡ stays_within old new (limit_of K rows a.held)
-    by None e h = absurd h
-    by (Some q) e h =
-        let used_is : a.used ≡ use_of K (user_row a.held.app.user q.users) = used ∙ ap (λ (o : Option Queue). use_of K (option_map_or (λ x. user_row a.held.app.user x.users) o None)) e in
-        ap (λ (o : Option Queue). list_all (stays_in_maximum old new) (items_to (path_at a.held.account.position rows) rows) && holds_of (λ x. fits_user_limit x.factor x.guaranteed (amounts_exchanged old new a.used)) o) e
-        ∙ (λ k. sym (all_within old new (items_to (path_at a.held.account.position rows) rows)) k && fits_user_limit q.factor q.guaranteed (amounts_exchanged old new (used_is k)))
-        ∙ sym (ap (λ (o : Option Queue). stays_within old new (option_map_or (limit_in K (map queue_use (items_to (path_at a.held.account.position rows) rows)) a.held.app.user) o no_limit)) e)
 
 -- ranges of applications whose numbers rise
 pub apart_ranges : (numbers : List ℕ) (end : ℕ) (ranges : List AskRange) → IsRising 1 numbers end → map (λ b. b.app) ranges ≡ numbers → AreApart ranges

@@ -21,9 +21,14 @@ pub record AreRanges (asks : List AskEntry) (ranges : List AskRange) : Type 0 wh
 abbrev pub AreApart : List AskRange → Type 0
 AreApart ranges = (i j : ℕ) (b d : AskRange) → i < j → slice_get ranges i ≡ Some b → slice_get ranges j ≡ Some d → b.app < d.app
 
--- the range of an application, where there is one
+-- the index of the range of an application, where there is one
+abbrev pub IsIndexOf : ℕ → List AskRange → Option ℕ → Type 0
+IsIndexOf app ranges None = (i : ℕ) (b : AskRange) → slice_get ranges i ≡ Some b → b.app ≡ app → ⊥
+IsIndexOf app ranges (Some index) = (range : AskRange) × (slice_get ranges index ≡ Some range) × (range.app ≡ app)
+
+-- and that range
 abbrev pub IsRangeOf : ℕ → List AskRange → Option AskRange → Type 0
-IsRangeOf app ranges None = (i : ℕ) (b : AskRange) → slice_get ranges i ≡ Some b → b.app ≡ app → ⊥
+IsRangeOf app ranges None = IsIndexOf app ranges None
 IsRangeOf app ranges (Some range) = ((i : ℕ) × (slice_get ranges i ≡ Some range)) × ((i : ℕ) (b : AskRange) → slice_get ranges i ≡ Some b → b.app ≡ app → b ≡ range)
 
 -- all asks of an application lie from an index on, up to another

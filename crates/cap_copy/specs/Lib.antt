@@ -2,7 +2,6 @@ pub mod AskEntry
 pub mod AskRanges
 pub mod Entries
 pub mod Limits
-pub mod Order
 pub mod SeenApp
 pub mod SeenTree
 pub mod ServiceOrder

@@ -1,5 +1,5 @@
 -- An application as a snapshot keeps it.
-use Rattle.std.specs.Prelude.{◌≡◌, ℕ, false, List, [], ◌∷◌, Some, None, map}
+use Rattle.std.specs.Prelude.{◌≡◌, ℕ, ◌-◌, false, List, [], ◌∷◌, Some, None, map, take, drop}
 use Rattle.std.specs.List.{All, slice_get}
 use Rattle.cap_model.specs.Sight.{NodeSight}
 use Rattle.cap_tree.specs.Queue.{use_of}
@@ -9,7 +9,6 @@ use Rattle.cap_copy.specs.declared.ranges.AskRange.{AskRange}
 use Rattle.cap_copy.specs.AskEntry.{AskEntry}
 use Rattle.cap_copy.specs.AskRanges.{AreRanges}
 use Rattle.cap_copy.specs.Entries.{asks_of}
-use Rattle.cap_copy.specs.Snapshot.{asks_between}
 
 -- an application that waits, what its user uses in its leaf, and where its asks lie among those of all: from an index on, up to another
 pub record SeenApp : Type 0 where
@@ -36,6 +35,10 @@ user_used K rows held = use_of K (user_row_at held.account.position held.app.use
 -- where its asks lie among those of all
 abbrev pub range_in : SeenApp → AskRange
 range_in a = record { app = a.held.app.number; start = a.start; end = a.end }
+
+-- the asks from an index on, up to another
+abbrev pub asks_between : ℕ → ℕ → List AskEntry → List AskEntry
+asks_between start end asks = take (end - start) (drop start asks)
 
 -- of each application of an index the asks lie where it says
 abbrev pub HaveAsks : List NodeSight → List AskEntry → List SeenApp → Type 0

@@ -1,6 +1,6 @@
 -- The order in which what waits at queues is served.
-use Rattle.std.specs.Prelude.{◌≡◌, ℕ, ◌<◌, false, List, [], ◌∷◌, length, Option, Some, None}
-use Rattle.std.specs.List.{All, slice_get}
+use Rattle.std.specs.Prelude.{◌≡◌, ℕ, ◌<◌, false, List, [], length, Option, Some, None}
+use Rattle.std.specs.List.{slice_get}
 use Rattle.std.specs.Option.{option_map_or}
 use Rattle.std.specs.Ordering.{nat_cmp, then_cmp, on, is_gt}
 use Rattle.std.specs.declared.cmp.Ordering.{Ordering}
@@ -17,11 +17,6 @@ position_nth i positions = option_map_or (λ position. position) (slice_get posi
 -- which of two indexes is served first: by the queues of their positions, then the earlier index
 abbrev pub waiting_cmp : List Row → List (List ℕ) → ℕ → ℕ → Ordering
 waiting_cmp rows positions = then_cmp (on (λ i. levels_at (position_nth i positions) rows) (slice_cmp level_cmp)) nat_cmp
-
--- none comes after one that follows it
-abbrev pub AreInOrder : (ℕ → ℕ → Ordering) → List ℕ → Type 0
-AreInOrder cmp [] = Unit {0}
-AreInOrder cmp (i ∷ is) = All (λ j. is_gt (cmp i j) ≡ false) is × AreInOrder cmp is
 
 -- it comes after that one, if one is named
 abbrev pub IsLater : List Row → List (List ℕ) → Option ℕ → ℕ → Type 0

@@ -7,15 +7,13 @@ use Rattle.cap_model.specs.Flat.{NodeTable, no_apps, no_nodes}
 use Rattle.cap_model.specs.Sight.{AppSight, NodeSight, Sight, app_sight}
 use Rattle.cap_tree.specs.Rows.{AreRows, IsAt, Row}
 use Rattle.cap_copy.specs.SeenTree.{SeenRows}
-use Rattle.cap_tree.specs.Spot.{IsPosition}
 use Rattle.cap_asks.specs.Accounts.{AreKept, HeldApp}
 use Rattle.cap_asks.specs.Apps.{HeldApps, account_of, position_of, waiting_of}
 use Rattle.cap_copy.specs.AskEntry.{AskEntry}
 use Rattle.cap_copy.specs.Entries.{asks_of_all, registered_of}
-use Rattle.cap_copy.specs.Limits.{limit_of}
-use Rattle.cap_copy.specs.Order.{service_order}
-use Rattle.cap_copy.specs.SeenApp.{AreSeen, SeenApp, range_in, user_used}
-use Rattle.cap_copy.specs.Snapshot.{IsSnapshot, Seen}
+use Rattle.cap_copy.specs.AskRanges.{AreRanges}
+use Rattle.cap_copy.specs.SeenApp.{AreSeen, HaveAsks, SeenApp, range_in, user_used}
+use Rattle.cap_copy.specs.Snapshot.{AreSkips, IsSnapshot, Seen}
 use Rattle.cap_copy.specs.Taking.{node_seen, sight_of_parts}
 
 -- the applications and the nodes that were copied
@@ -66,26 +64,27 @@ pub record IsCopied (K : ℕ) (parts : Parts) (waiting : List HeldApp) (tree : S
   pub room : length seen ≤ tree.room
   pub skips_are : length skips ≡ length nodes
 
--- a snapshot of these: a tree in which applications wait, the registered applications, those that wait with the asks of all, the nodes, of each how many
--- from it on hold reservations, how many containers are live, and the number of the next
-abbrev pub seen_of : ℕ → SeenRows → List AppSight → List SeenApp → List AskEntry → List NodeSight → List ℕ → ℕ → ℕ → Seen
-seen_of K tree apps seen asks nodes skips live next_container = record {
+-- a snapshot of these: a tree, the registered applications, those that wait, the nodes, how many containers are live, and the number of the next
+abbrev pub seen_of : SeenRows → List AppSight → List SeenApp → List NodeSight → ℕ → ℕ → Seen
+seen_of tree registered apps nodes live next_container = record {
   rows = tree.rows;
-  apps = apps;
-  limits = map (λ a. limit_of K tree.rows a.held) seen;
-  asks = asks;
-  ranges = map range_in seen;
-  order = service_order tree.rows tree.waiting;
+  apps = registered;
+  waiting = map (λ a. app_sight a.held.app) apps;
   nodes = nodes;
-  skips = skips;
   live = live;
   next_container = next_container;
 }
 
--- a snapshot of few kinds of resources, whose applications wait in its tree, know their leaves there and what their users use in them
-pub record IsStored (K : ℕ) (tree : SeenRows) (apps : List SeenApp) (seen : Seen) : Type 0 where
+-- a snapshot of few kinds of resources, whose applications wait in its tree, know their leaves there, what their users use in them and where their
+-- asks lie, which want what they want beside the reservations of the nodes; and of each node it knows how many from it on hold reservations
+pub record IsStored (K : ℕ) (tree : SeenRows) (apps : List SeenApp) (asks : List AskEntry) (skips : List ℕ) (seen : Seen) : Type 0 where
   pub resources : K ≤ resources_max
-  pub whole : IsSnapshot K seen
+  pub few : length apps ≤ applications_max
+  pub is : IsSnapshot K seen
+  pub rows_are : AreRows tree.rows
   pub waiting : tree.waiting ≡ map (λ a. a.held.account.position) apps
-  pub placed : All (λ a. IsPosition tree.rows a.held.account.position) apps
+  pub placed : All (λ a. IsAt tree.rows a.held.app.leaf a.held.account.position) apps
   pub used : All (λ a. a.used ≡ user_used K tree.rows a.held) apps
+  pub have : HaveAsks seen.nodes asks apps
+  pub ranges : AreRanges asks (map range_in apps)
+  pub skips_are : AreSkips seen.nodes skips

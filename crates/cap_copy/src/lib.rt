@@ -3,6 +3,7 @@
 
 mod asks;
 mod copied;
+mod farm;
 mod nodes;
 mod ranges;
 mod seen;
@@ -14,8 +15,6 @@ mod taking;
 mod waiting;
 
 pub use copied::ClusterCopy;
-pub use ranges::AskRange;
-pub use seen::{SeenAsk, SeenNode};
 pub use seen_tree::SeenTree;
 pub use snapshot::Snapshot;
 pub use taking::copy_tree;

@@ -1,6 +1,6 @@
 //! Where the asks of each application lie among all asks of a snapshot (`AskRange`, `range_of`).
 ghost use Rattle.std.specs.Prelude.{map};
-ghost use Rattle.cap_copy.specs.AskRanges.{AreApart, IsRangeOf};
+ghost use Rattle.cap_copy.specs.AskRanges.{AreApart, IsIndexOf, IsRangeOf};
 ghost use Rattle.cap_copy.specs.SeenApp.{range_in};
 
 use crate::seen_app::SeenApp;
@@ -13,10 +13,19 @@ pub struct AskRange {
     pub end: usize,
 }
 
-/// Where the asks of an application lie, by one binary search in applications in order of number. None where it is none of them.
+/// Where the asks of an application lie. None where it is none of these, which are in order of number.
 pub(crate) fn range_of<const K: usize>(apps: &[SeenApp<K>], app: u64) -> Option<AskRange>
     requires { AreApart (map range_in apps.now) }
     ensures { IsRangeOf app (map range_in apps.now) result }
+{
+    let index = index_of(apps, app)?;
+    Some(apps[index].range())
+}
+
+/// The index of an application, by one binary search in applications in order of number. None where it is none of them.
+pub(crate) fn index_of<const K: usize>(apps: &[SeenApp<K>], app: u64) -> Option<usize>
+    requires { AreApart (map range_in apps.now) }
+    ensures { IsIndexOf app (map range_in apps.now) result }
 {
     let mut low = 0;
     let mut high = apps.len();
@@ -29,7 +38,7 @@ pub(crate) fn range_of<const K: usize>(apps: &[SeenApp<K>], app: u64) -> Option<
         }
     }
     if low < apps.len() && apps[low].number() == app {
-        Some(apps[low].range())
+        Some(low)
     } else {
         None
     }

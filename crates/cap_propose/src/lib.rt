@@ -1,9 +1,7 @@
 //! What a scheduler thread proposes on a snapshot of a cluster.
 #![tactic(auto)]
 
-mod admission;
 mod choice;
-mod laws;
 
+pub use cap_choice::choice_is_unique;
 pub use choice::propose;
-pub use laws::choice_is_unique;

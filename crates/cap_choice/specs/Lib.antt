@@ -1,0 +1,4 @@
+pub mod Admitting
+pub mod Nearest
+pub mod Sizes
+pub mod Unique

@@ -1,8 +1,0 @@
-use Rattle.std.proofs.Common.{◌∙◌}
-use Rattle.cap_copy.proofs.snapshot.Snapshot.node_count.Goals as goal
-
-pub returns-clause-count : goal.returns-clause-count
-returns-clause-count g c = rw (← c.self.view_is) (c.len.ensures ∙ c.self.inside.nodes.ok.0)
-
-pub returns-clause-whole : goal.returns-clause-whole
-returns-clause-whole g c = rw (← c.self.view_is) c.self.invariant.whole

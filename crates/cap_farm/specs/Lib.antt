@@ -1,0 +1,4 @@
+pub mod Offers
+pub mod Ring
+pub mod Rooms
+pub mod Service
