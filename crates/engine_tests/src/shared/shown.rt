@@ -1,6 +1,7 @@
 //! A snapshot that is shown to several: as long as nothing is entered each is shown the same, and it stays as it is.
 
 use crate::shared::steps::{Counts, Step, Work, worked};
+use cap_farm::Farm;
 use cap_shared::{Naming, Seat, Shared, Shown};
 use cap_testing::{TWO_QUEUES, cluster, epoch};
 use std::alloc::Global;
