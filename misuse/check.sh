@@ -10,7 +10,7 @@ trap 'rm -rf "$work"' EXIT
 cp "$top/HANDLES" "$work"
 mkdir "$work/crates"
 stood=$(cat "$top/crates.txt")
-for crate in cap_vector cap_base cap_model cap_laws cap_text cap_config cap_tree cap_asks cap_nodes cap_copy cap_commit; do
+for crate in cap_vector cap_base cap_model cap_laws cap_farm cap_text cap_config cap_tree cap_asks cap_nodes cap_copy cap_commit; do
   mkdir "$work/crates/$crate"
   cp -r "$top/crates/$crate/src" "$top/crates/$crate/specs" "$work/crates/$crate/"
   [ ! -d "$top/crates/$crate/proofs" ] || cp -r "$top/crates/$crate/proofs" "$work/crates/$crate/"
