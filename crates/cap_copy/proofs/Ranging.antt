@@ -63,7 +63,7 @@ ranges_more asks more ranges b are start end own = record {
   ];
 }
 
--- all asks of an application lie in its range, where there is one, and there are none where not
+-- all asks of an application lie in its range
 pub inside_range : (asks : List AskEntry) (ranges : List AskRange) (app : ℕ) (range : AskRange) → AreRanges asks ranges → IsRangeOf app ranges (Some range) → (range.end ≤ length asks) × AreInside asks app range.start range.end
 inside_range asks ranges app range filled found = (
   (filled.ends found.0.0 range found.0.1).1,
@@ -73,11 +73,6 @@ inside_range asks ranges app range filled found = (
       let same = found.1 e.index lies.range lies.at (lies.app ∙ own) in
       (subst (λ (r : AskRange). r.start ≤ j) same lies.from, subst (λ (r : AskRange). j < r.end) same lies.to),
 )
-
-pub inside_none : (asks : List AskEntry) (ranges : List AskRange) (app : ℕ) → AreRanges asks ranges → IsRangeOf app ranges None → AreInside asks app 0 0
-inside_none asks ranges app filled none j e at own =
-    let lies = filled.each j e (slice_get_within asks j e at) at in
-    absurd (none e.index lies.range lies.at (lies.app ∙ own))
 
 -- the search for an application among those whose numbers rise
 module _ (apps : List SeenApp) (app : ℕ) (apart : AreApart (map range_in apps)) where

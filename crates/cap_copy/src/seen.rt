@@ -24,20 +24,6 @@ impl<const K: usize> Model for SeenAsk<K> {
 }
 
 impl<const K: usize> SeenAsk<K> {
-    /// The number of its application.
-    pub fn app(&self) -> u64
-        ensures { result ≡ self.now.app }
-    {
-        self.app
-    }
-
-    /// The index of its application among the registered ones that have asks.
-    pub fn index(&self) -> usize
-        ensures { result ≡ self.now.index }
-    {
-        self.index as usize
-    }
-
     /// What is asked for.
     pub fn ask(&self) -> &Ask<K>
         ensures { result.now ≡ self.now.ask }
