@@ -8,6 +8,7 @@ ghost use Rattle.cap_choice.specs.Nearest.{IsNearestBefore, IsNearestUpTo};
 ghost use Rattle.cap_choice.specs.Sizes.{FarmFitsInMemory};
 ghost use Rattle.cap_farm.specs.Offers.{IsOffer, IsWhole};
 ghost use Rattle.cap_farm.specs.Ring.{IsReserved, IsTurn};
+ghost use Rattle.cap_farm.specs.Rooms.{IsUnfit};
 ghost use Rattle.cap_farm.specs.Service.{IsWaiter};
 
 use crate::admission::{is_open, may_convert, proposal, taken_as};
@@ -77,7 +78,7 @@ fn nearest_taker<const K: usize, F: Farm<K>>(farm: &F, first: usize, count: usiz
 
 /// The nearest taker where `nearest` is the one of all asks of applications that are served before that one: a node that takes one of
 /// its asks, if one comes before it, and else `nearest`. The first `least` nodes of the ring hold reservations, so that none of
-/// them takes an ask.
+/// them takes an ask. An ask that no node fits is passed over at once, then one that no limits allow, and then nodes are looked at.
 fn nearer_taker<const K: usize, F: Farm<K>>(
     farm: &F,
     first: usize,
@@ -103,12 +104,16 @@ fn nearer_taker<const K: usize, F: Farm<K>>(
             return nearest;
         }
         let ask = farm.ask(app, index);
-        let Some(taker) = first_taker(farm, first, count, app, ask, nearest.turn) else {
+        let begin = farm.next_fit(first, 0, ask);
+        if begin >= nearest.turn {
             continue;
-        };
+        }
         if !is_open(farm, app, index, ask) {
             continue;
         }
+        let Some(taker) = first_taker(farm, first, count, app, ask, begin, nearest.turn) else {
+            continue;
+        };
         let node = farm.number(wrapped(first, taker.turn, count));
         nearest = Nearest {
             turn: taker.turn,
@@ -125,27 +130,29 @@ struct Taker {
     kind: ProposalKind,
 }
 
-/// The first node of the ring that takes the ask, `None` if none of the first `end` nodes takes it. Nodes that hold reservations or
-/// are elsewhere are passed over together.
+/// The first node of the ring that takes the ask, `None` if none of the first `end` nodes takes it. It begins at the node that is
+/// `begin` nodes after the first, before which none takes it.
 fn first_taker<const K: usize, F: Farm<K>>(
     farm: &F,
     first: usize,
     count: usize,
     app: F::App,
     ask: &Ask<K>,
+    begin: usize,
     end: usize,
 ) -> Option<Taker>
     requires fits { FarmFitsInMemory K.row F.row }
     requires whole { IsWhole (F.sight farm.now) }
     requires count { count ≡ length (F.sight farm.now).nodes }
     requires first { first < count }
+    requires begin { IsTurn (IsUnfit ask.now) (F.sight farm.now).nodes first 0 begin }
     requires end { end ≤ count }
     requires offer { IsOffer (F.sight farm.now)
         (record { app = F.shown farm.now app; ask = ask.now }) }
     ensures { IsFirstTaker (F.sight farm.now) first end
         (record { app = F.shown farm.now app; ask = ask.now }) result }
 {
-    let mut turn = farm.next_fit(first, 0, ask);
+    let mut turn = begin;
     while turn < end {
         if let Some(kind) = taken_as(farm, wrapped(first, turn, count), ask) {
             return Some(Taker { turn, kind });

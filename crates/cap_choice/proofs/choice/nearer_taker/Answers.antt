@@ -1,5 +1,5 @@
 use Rattle.cap_choice.proofs.Prelude.{◌∙◌, ◌≡◌, sym, subst, arith, length, Some, NodeSight, IsFirstTaker, Offer, ComesUpTo, node_after, slice_get}
-use Rattle.cap_choice.proofs.Passing.{closed_passed, node_at}
+use Rattle.cap_choice.proofs.Passing.{closed_passed, fewer, node_at, none_passed, unfit_passed}
 use Rattle.cap_choice.proofs.Reading.{offer_at, read}
 use Rattle.cap_choice.proofs.Walking.{ask_passed, ask_taken, no_asks, nothing_nearer}
 use Rattle.cap_choice.proofs.choice.nearer_taker.Goals as goal
@@ -14,6 +14,17 @@ returns-then-nearest-least g c =
     let sight = g.F.Farm.sight c.args.farm.now in
     let app = g.F.Farm.shown c.args.farm.now c.args.app in
     nothing_nearer sight c.requires.whole c.args.first (ComesUpTo sight app c.loop-index.index) (ComesUpTo sight app (length app.asks)) c.args.least c.loop-index.nearest.turn c.loop-index.nearest.proposal c.requires.least c.if-nearest-least.true c.loop-index.invariant
+
+pub loop-index-preserved-then-begin-nearest : goal.loop-index-preserved-then-begin-nearest
+loop-index-preserved-then-begin-nearest g c =
+    let sight = g.F.Farm.sight c.args.farm.now in
+    let app = g.F.Farm.shown c.args.farm.now c.args.app in
+    let ask = c.ask-ask.result.now in
+    let o : Offer = record { app = app; ask = ask } in
+    let is = offer_at sight app c.loop-index.index ask c.requires.waits.found c.ask-ask.ensures in
+    let passed = unfit_passed sight c.requires.whole c.args.first o is 0 c.next_fit-begin.result c.next_fit-begin.ensures (none_passed sight c.requires.whole c.args.first o is) in
+    ask_passed sight c.requires.whole c.args.first app c.requires.waits c.loop-index.index ask c.ask-ask.ensures c.loop-index.nearest.turn c.loop-index.nearest.proposal
+    (fewer sight c.requires.whole c.args.first o is c.loop-index.nearest.turn c.next_fit-begin.result c.if-begin-nearest.true passed) c.loop-index.invariant
 
 pub loop-index-preserved-then-not-is_open : goal.loop-index-preserved-then-not-is_open
 loop-index-preserved-then-not-is_open g c =
@@ -51,4 +62,4 @@ loop-index-preserved g c =
 pub first_taker-requires : goal.first_taker-requires
 first_taker-requires g c =
     let is = offer_at (g.F.Farm.sight c.args.farm.now) (g.F.Farm.shown c.args.farm.now c.args.app) c.loop-index.index c.ask-ask.result.now c.requires.waits.found c.ask-ask.ensures in
-    (c.requires.fits.ask, (c.requires.fits, (c.requires.whole, (c.requires.count, (c.requires.first, (omega (arith, c.loop-index.invariant.within, c.requires.count), is))))))
+    (c.requires.fits.ask, (c.requires.fits, (c.requires.whole, (c.requires.count, (c.requires.first, (c.next_fit-begin.ensures, (omega (arith, c.loop-index.invariant.within, c.requires.count), is)))))))
