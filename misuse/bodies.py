@@ -21,6 +21,7 @@ import tempfile
 from collections import Counter
 from concurrent.futures import ThreadPoolExecutor
 from dataclasses import dataclass, field
+from functools import lru_cache
 from glob import glob
 from importlib.machinery import SourceFileLoader
 from importlib.util import module_from_spec, spec_from_loader
@@ -28,7 +29,8 @@ from importlib.util import module_from_spec, spec_from_loader
 TOP = os.path.dirname(os.path.dirname(os.path.realpath(__file__)))
 EXPECTED = 169  # how many wrong bodies there are
 SECONDS = 3600  # how long a check may take on a busy machine
-REFUSED_BY = "# refused by "
+REFUSED_BY = re.compile(r"# refused by (.+?)(?<!:):(?!:)")  # what stands in backquotes there are functions, types, and clauses, which the word clause announces
+QUOTED = re.compile(r"(clauses? )?`([\w:]+)`")
 ONLY = re.compile(r"^# only: (\S+)$", re.M)
 GOAL = re.compile(r"^# goal: (\S+)$", re.M)
 UNPROVED = re.compile(r"note: src/\S+ it is not proved that .*\(`([^`]+)`\)(.*)")
@@ -75,11 +77,27 @@ def edits_of(kit, names):
         sys.exit(f"there is no wrong body of the name {', '.join(sorted(lost))}")
     for path in (path for path, name in paths.items() if not names or name in names):
         text = read(path)
-        if not text.startswith(REFUSED_BY) or not ONLY.search(text):
-            sys.exit(f"{path} does not begin with '{REFUSED_BY}', or has no line '# only: FUNCTION'")
+        if not REFUSED_BY.match(text) or not ONLY.search(text):
+            sys.exit(f"{path} does not begin with '# refused by ..: ', or has no line '# only: FUNCTION'")
         crate = kit.Crate(os.path.dirname(os.path.dirname(path)), TOP, known)
+        strange = [name for name in QUOTED.findall(REFUSED_BY.match(text)[1]) if not stands(kit, crate, *name)]
+        if strange:
+            sys.exit(f"{path}: its crate has no {', '.join(is_clause + name for is_clause, name in strange)}")
         edits.append(Edit(path, crate, ONLY.search(text)[1], text))
     return edits
+
+
+def stands(kit, crate, is_clause, name):
+    """Whether a crate has a function or a type of this name, or a clause: of a contract, or of a record that one cites."""
+    last = name.rpartition("::")[2]
+    form = rf"\bensures(?: \*)? {last} \{{|^  pub {last} :" if is_clause else rf"\b(?:fn|struct|enum|trait) {last}\b"
+    return bool(re.search(form, text_of(tuple(kit.files_of(crate.folder))), re.M))
+
+
+@lru_cache(maxsize=1)
+def text_of(files):
+    """The texts of the files of one crate, which are asked for again and again."""
+    return "\n".join(read(file) for file in files if "/proofs/" not in file)
 
 
 def rounds_of(edits):
