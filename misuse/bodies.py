@@ -175,9 +175,9 @@ def goals_of(edit, lines):
     folder, _, name = re.match(form, lines[at])[1].replace("::", "/").rpartition("/")
     proofs = re.compile(rf"\./proofs/{folder}{'/' if folder else ''}\+?{name}/\S+: error: (?:`([^`]+)`: )?(.*)")
     for it in filter(None, map(proofs.match, lines)):
-        counts = not NAMES.search(it[2]) and not LIMITS.search(it[2])
+        counts = bool(it[1]) and not NAMES.search(it[2]) and not LIMITS.search(it[2])
         if counts or it[1] not in goals:
-            goals[it[1]] = (f"{it[1]}: {it[2]}", counts)
+            goals[it[1]] = (f"{it[1] or 'a text that cannot be read'}: {it[2]}", counts)
     return goals
 
 
@@ -190,7 +190,7 @@ def verdict(edit, lines):
     lacking = [it for it in edit.goals if it not in counted]
     if not counted:
         said = "; ".join(said for said, _ in goals.values())
-        return False, [], f"only by a name that a proof misses, or by a limit: {said[:300]}" if goals else "its function has no goal that is not proved"
+        return False, [], f"not for what a goal says: {said[:300]}" if goals else "its function has no goal that is not proved"
     if lacking:
         return False, counted, f"{', '.join(lacking)} must not be proved, and {', '.join(counted)} is what is not"
     return True, counted, "; ".join(goals[it][0] for it in counted)[:300]

@@ -73,6 +73,12 @@ class Verdicts(unittest.TestCase):
             with self.subTest(fault):
                 self.assertEqual(self.refused(edit(), proof_line("a", fault), "fn low::f: not proved"), (False, []))
 
+    def test_a_proof_that_cannot_be_read_does_not_count(self):
+        line = "./proofs/f/Answers.antt:2:4: error: expected the end of the line"
+        self.assertEqual(self.refused(edit(), line, "fn low::f: not proved"), (False, []))
+        lines = [line, proof_line("a", "the types differ"), "fn low::f: not proved"]
+        self.assertEqual(self.refused(edit("b"), *lines), (False, ["a"]))
+
     def test_a_check_that_comes_to_no_end(self):
         refused = "fn low::f: no proof: `search` did not prove `a`"
         for lines in ([refused, "rattle: no verdict"], [refused], ["error[E0308]: mismatched types", refused, ENDED]):
