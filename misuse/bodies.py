@@ -84,6 +84,7 @@ def edits_of(kit, names):
         if strange:
             sys.exit(f"{path}: its crate has no {', '.join(is_clause + name for is_clause, name in strange)}")
         edits.append(Edit(path, crate, ONLY.search(text)[1], text))
+        changed(crate.folder, edits[-1])
     return edits
 
 
@@ -113,18 +114,25 @@ def rounds_of(edits):
     return sorted(crates.values(), key=len, reverse=True)
 
 
-def change(folder, edit):
-    """Makes the changes of an edit in the copy of its crate. Each old text stands in its file once."""
-    path = None
+def changed(folder, edit):
+    """The files of a crate, or of a copy, as an edit changes them, by their paths. Each old text stands in its file once."""
+    path, texts = None, {}
     for file, old, new in CHANGES.findall(edit.text):
         if file:
             path = f"{folder}/{file}"
-            continue
-        was = read(path)
-        if was.count(old) != 1:
-            sys.exit(f"{edit.name()}: '{old}' stands in its file {was.count(old)} times, and not once")
+            texts.setdefault(path, read(path))
+        elif texts[path].count(old) != 1:
+            sys.exit(f"{edit.name()}: '{old}' stands in its file {texts[path].count(old)} times, and not once")
+        else:
+            texts[path] = texts[path].replace(old, new)
+    return texts
+
+
+def change(folder, edit):
+    """Makes the changes of an edit in a copy of its crate."""
+    for path, text in changed(folder, edit).items():
         with open(path, "w", encoding="utf-8") as it:
-            it.write(was.replace(old, new))
+            it.write(text)
 
 
 def check(kit, crate, functions, edits, kept):
