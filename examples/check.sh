@@ -13,6 +13,14 @@ stored() { awk -v name="== the example $1" '/^== / { inside = $0 == name; next }
 
 complain() { echo "examples/$1" >&2; exit 1; }
 
+# run_tests WORDS..: runs the tests of the package in Python that the words choose, which end within ten minutes; fails
+# where none ran
+run_tests() {
+  local said
+  said=$(timeout 600 python3 -m unittest discover -s ../clients/python/tests "$@" 2>&1 | tee >(cat >&2)) || complain "check.sh: tests of $* fail"
+  grep -q '^Ran [1-9]' <<<"$said" || complain "check.sh: no test of $* ran"
+}
+
 if [ "${1:-}" != --built ]; then
   ../capsched --version >/dev/null
 elif [ ! -x "$program" ]; then
@@ -43,7 +51,10 @@ if grep -rnE '^.{121,}' ../clients/python/{src,tests} --include='*.py' --include
 fi
 PYTHONPATH=$(realpath ../clients/python/src)
 export PYTHONPATH
-[ -n "$program" ] || exec python3 -m unittest discover -s ../clients/python/tests -k Bytes -k Formats -k Histories -k StatsFiles
+if [ -z "$program" ]; then
+  for name in Bytes Formats Histories StatsFiles; do run_tests -k "$name"; done
+  exit
+fi
 CAPSCHED=$(realpath "$program")
 export CAPSCHED
-python3 -m unittest discover -s ../clients/python/tests
+for file in ../clients/python/tests/test_*.py; do run_tests -p "$(basename "$file")"; done

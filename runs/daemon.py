@@ -1,10 +1,12 @@
 #!/usr/bin/env python3
 """Runs `capsched serve` where the system refuses it threads, memory or descriptors, and looks at what it prints and ends with.
 
-A thread is refused by a limit on the process's memory that is less than a thread's stack takes, which has a limit of its own. With words this runs the
-programs that they name, else the one that `./capsched` builds.
+A thread is refused by a limit on the process's memory that is less than a thread's stack takes, which has a limit of its own. Beside each limit stands a
+control: with what one thread, one journal or one connection takes more, the daemon answers. With words this runs the programs that they name, else the
+one that `./capsched` builds.
 """
 import os
+import re
 import resource
 import socket
 import subprocess
@@ -18,12 +20,17 @@ TOP = os.path.dirname(HERE)
 GIB = 1 << 30
 SETTINGS = b"yarn.scheduler.capacity.root.queues=default\n"
 ASK = bytes.fromhex("00000006010a00000001")  # ClusterInfo, whose answer has 55 bytes
-DESCRIPTORS = 10  # 0 to 2, the listener, three to wait with, and three for one connection
+THREADS = 9  # the committer's, and those of eight workers
+JOURNAL, ENTRY = 1_000_000, 376  # how many entries a journal has, and how many bytes each takes
+REST = 120_000_000  # more than all else takes, in bytes, and less than such a journal
+CONNECTION = 3  # how many descriptors a connection takes
+DESCRIPTORS = 7 + CONNECTION  # 0 to 2, the listener, three to wait with, and one connection's
+SECONDS = 20  # how long a line may take on a busy machine
 SOON = 5.0  # a daemon that can't go on ends within a second; on a busy machine it may take as many more
 
 
 class Daemon:
-    """A daemon with these limits, each a kind of the module `resource` and a number."""
+    """A daemon with these limits, each a kind of the module `resource` and a number. It ends with the block that it is for."""
 
     def __init__(self, program, words, limits):
         self.port = free_port()
@@ -38,7 +45,15 @@ class Daemon:
 
         self.began = time.monotonic()
         self.process = subprocess.Popen(words, stdout=subprocess.PIPE, stderr=subprocess.PIPE, bufsize=0, preexec_fn=limit)
-        self.listening = self.process.stdout.readline()
+        self.listening = line_of(self.process)
+
+    def __enter__(self):
+        return self
+
+    def __exit__(self, *_):
+        self.process.kill()
+        self.process.communicate()
+        self.config.close()
 
     def ended(self):
         """What it printed after its first line, its words, its status, and how many seconds it ran."""
@@ -47,6 +62,16 @@ class Daemon:
 
     def connect(self):
         return socket.create_connection(("127.0.0.1", self.port), timeout=10)
+
+
+def line_of(process):
+    """The next line that a process prints. Where none comes in time the process is killed, and so ends what it prints."""
+    timer = threading.Timer(SECONDS, process.kill)
+    timer.start()
+    try:
+        return process.stdout.readline()
+    finally:
+        timer.cancel()
 
 
 def free_port():
@@ -68,41 +93,63 @@ def expect(holds, what, seen):
         sys.exit(f"{what}: {seen}")
 
 
+def expect_no_memory(program, words, limits, what):
+    """A daemon with these limits ends soon, for want of memory."""
+    with Daemon(program, words, limits) as daemon:
+        seen = daemon.ended()
+    expect(seen[0] == b"no memory\n" and seen[2] == 3 and seen[3] < SOON, what, seen)
+
+
+def expect_answers(program, words, limits, count, what):
+    """A daemon with these limits answers so many connections at once, has no words for them, and ends well."""
+    with Daemon(program, [*words, "--connections", str(count)], limits) as daemon:
+        clients = [daemon.connect() for _ in range(count)]
+        answered = [is_answered(client) for client in clients]
+        for client in clients:
+            client.close()
+        seen = daemon.ended()
+    expect(all(answered), what, answered)
+    expect(seen[0] == b"closed epochs=1 entries=%d\n" % count and seen[2] == 0, what, seen)
+    expect(not re.search(rb"^(listener|connection): ", seen[1], re.M), what, seen)
+
+
 def check_threads(program):
     """No thread can be made, or only some of the committer's and the eight workers'."""
-    for count in (0, 1, 2, 5):
-        limits = [(resource.RLIMIT_STACK, GIB), (resource.RLIMIT_AS, count * GIB + GIB // 2)]
-        seen = Daemon(program, ["--workers", "8", "--connections", "1"], limits).ended()
-        expect(seen[:3] == (b"no memory\n", seen[1], 3) and seen[3] < SOON, f"{count} threads at most", seen)
-    return 4
+    words, refused = ["--workers", "8"], (0, 1, 2, 5, THREADS - 1)
+    limits = [[(resource.RLIMIT_STACK, GIB), (resource.RLIMIT_AS, count * GIB + GIB // 2)] for count in (*refused, THREADS)]
+    for count, limit in zip(refused, limits):
+        expect_no_memory(program, [*words, "--connections", "1"], limit, f"{count} threads at most")
+    expect_answers(program, words, limits[-1], 1, f"{THREADS} threads")
+    return len(limits)
 
 
 def check_memory(program):
     """There is no memory for the journal of the first epoch."""
-    limits = [(resource.RLIMIT_AS, 120_000_000)]
-    words = ["--workers", "1", "--connections", "1", "--journal", "1000000"]
-    seen = Daemon(program, words, limits).ended()
-    expect(seen[:3] == (b"no memory\n", seen[1], 3) and seen[3] < SOON, "no memory for a journal", seen)
-    return 1
+    words = ["--workers", "1", "--journal", str(JOURNAL)]
+    expect_no_memory(program, [*words, "--connections", "1"], [(resource.RLIMIT_AS, REST)], "no memory for a journal")
+    expect_answers(program, words, [(resource.RLIMIT_AS, REST + JOURNAL * ENTRY)], 1, "memory for a journal")
+    return 2
 
 
 def check_descriptors(program):
     """The second connection finds no descriptor. It is accepted where the first ends within 5 seconds, and else none is accepted any more."""
     for seconds, entries, status in ((1, 2, 0), (6, 1, 1)):
-        daemon = Daemon(program, ["--workers", "1", "--connections", "2"], [(resource.RLIMIT_NOFILE, DESCRIPTORS)])
-        first = daemon.connect()
-        expect(is_answered(first), "the first connection", "no answer")
-        second = daemon.connect()
-        timer = threading.Timer(seconds, first.close)
-        timer.start()
-        expect(is_answered(second) == (status == 0), f"a connection without a descriptor for {seconds} s", "the other answer")
-        second.close()
-        timer.join()
-        seen = daemon.ended()
-        line = f"closed epochs=1 entries={entries}\n".encode()
-        expect(seen[0] == line and seen[2] == status, f"a connection without a descriptor for {seconds} s", seen)
-        expect(seen[1].startswith(b"listener: "), "words for a connection without a descriptor", seen)
-    return 2
+        what = f"a connection without a descriptor for {seconds} s"
+        with Daemon(program, ["--workers", "1", "--connections", "2"], [(resource.RLIMIT_NOFILE, DESCRIPTORS)]) as daemon:
+            first = daemon.connect()
+            expect(is_answered(first), "the first connection", "no answer")
+            second = daemon.connect()
+            timer = threading.Timer(seconds, first.close)
+            timer.start()
+            expect(is_answered(second) == (status == 0), what, "the other answer")
+            second.close()
+            timer.join()
+            seen = daemon.ended()
+        expect(seen[0] == b"closed epochs=1 entries=%d\n" % entries and seen[2] == status, what, seen)
+        expect(seen[1].startswith(b"listener: "), f"words for {what}", seen)
+    limits = [(resource.RLIMIT_NOFILE, DESCRIPTORS + CONNECTION)]
+    expect_answers(program, ["--workers", "1"], limits, 2, "descriptors for two connections")
+    return 3
 
 
 def check(program):

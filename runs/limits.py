@@ -23,6 +23,7 @@ except ModuleNotFoundError:
 PROPERTY = "yarn.scheduler.capacity"
 ONE_LEAF = f"{PROPERTY}.root.queues=a"
 SMALL, LARGE, WITH_GPU = Resource(1024, 1), Resource(2048, 2), Resource(1024, 1, 1)
+SCRIPTS = 20  # how many scripts are made here
 INFO = frame(ClusterInfo().payload(1, 1)).hex()
 EMPTY = "out 1 00000033010a0000000100" + "00" * 44  # what a ClusterInfo is answered where there is nothing
 
@@ -256,10 +257,12 @@ CHECKS = (check_settings, check_nodes, check_applications, check_allocates, chec
 
 
 def check(program):
-    """Makes all checks. The result is how many there are."""
+    """Makes all checks, as many as there were. The result is how many there are."""
     results = [result for made in CHECKS for result in made(program)]
     if not all(results):
         sys.exit(f"{program} does not answer at its limits as it must")
+    if len(results) != SCRIPTS:
+        sys.exit(f"limits: {SCRIPTS} scripts are to be played, and not {len(results)}")
     return len(results)
 
 

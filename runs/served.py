@@ -16,6 +16,7 @@ TOP = os.path.dirname(HERE)
 DEFAULT = b"yarn.scheduler.capacity.root.queues=default"
 ALLOCATE, HOW_MANY_ASKS = 3, slice(18, 20)
 SECONDS = 20  # how long an answer may take on a busy machine
+CASES = 74  # how many cases of runs/replay are played
 
 
 def completed(unread, piece):
@@ -78,7 +79,7 @@ def play(program, name, conf, steps):
         words = ["serve", "--port", str(port), "--workers", "1", "--config", config.name, "--connections", str(count)]
         process = subprocess.Popen([program, *words], stdout=subprocess.PIPE, stderr=subprocess.DEVNULL)
         try:
-            daemon.expect(process.stdout.readline() == b"listening %d\n" % port, name, "the daemon does not listen")
+            daemon.expect(daemon.line_of(process) == b"listening %d\n" % port, name, "the daemon does not listen")
             talk(port, name, steps)
             printed = process.communicate(timeout=SECONDS)[0]
             daemon.expect(printed.startswith(b"closed ") and process.returncode == 0, name, (printed, process.returncode))
@@ -110,12 +111,12 @@ def talk(port, name, steps):
 
 
 def check(program, cases, answers):
-    """Plays those of these cases that can be. The result is how many they are."""
+    """Plays those of these cases that can be, which are as many as they were. The result is how many they are."""
     played = 0
     for (name, given), (_, text) in zip(cases, answers):
         found = steps_of(given, text)
         if found and found[1]:
             play(program, name.decode(), *found)
             played += 1
-    daemon.expect(played > 0, "cases of replay", "none can be played")
+    daemon.expect(played == CASES, f"cases of replay: {CASES} are to be played", played)
     return played

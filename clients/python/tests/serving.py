@@ -2,6 +2,7 @@
 import os
 import socket
 import subprocess
+import threading
 import time
 
 TOP = os.path.abspath(os.path.join(os.path.dirname(__file__), "..", "..", ".."))
@@ -25,8 +26,19 @@ def serve(test, config, connections, port=None):
     test.addCleanup(daemon.stdout.close)
     test.addCleanup(daemon.wait)
     test.addCleanup(daemon.kill)
-    test.assertEqual(daemon.stdout.readline(), f"listening {port}\n")
+    test.assertEqual(line_of(daemon), f"listening {port}\n")
     return port, daemon
+
+
+def line_of(process, seconds=20):
+    """The next line that a process prints. Where none comes in so many seconds the process is killed, and so ends what
+    it prints."""
+    timer = threading.Timer(seconds, process.kill)
+    timer.start()
+    try:
+        return process.stdout.readline()
+    finally:
+        timer.cancel()
 
 
 def read(name):

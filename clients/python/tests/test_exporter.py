@@ -19,7 +19,7 @@ from capsched.exporter.looking import History, Look, Looker, State, StatsFile
 from capsched.exporter.metrics import Metric, metrics_of
 from capsched.exporter.page import page_of, said
 from capsched.exporter.stating import json_of
-from serving import EXAMPLES, serve, wait_until
+from serving import EXAMPLES, line_of, serve, wait_until
 
 NONE = Resource(0, 0)
 EXPORTER = [sys.executable, "-m", "capsched.exporter"]
@@ -198,7 +198,7 @@ class Waiting(unittest.TestCase):
         looker._state = State("127.0.0.1:1", a_look({}), None)
         thread = threading.Thread(target=looker.look)
         thread.start()
-        self.addCleanup(thread.join)
+        self.addCleanup(thread.join, 20)
         self.addCleanup(over.set)
         self.assertTrue(began.wait(20))
         self.assertTrue(looker.state().is_up)
@@ -216,7 +216,7 @@ class Served(unittest.TestCase):
         self.exporter = subprocess.Popen(words, stdout=subprocess.PIPE, stderr=subprocess.PIPE, text=True)
         for end in (self.exporter.stderr.close, self.exporter.stdout.close, self.exporter.wait, self.exporter.kill):
             self.addCleanup(end)
-        said = self.exporter.stdout.readline()
+        said = line_of(self.exporter)
         self.assertRegex(said, r"^listening 127\.0\.0\.1:\d+\n$")
         self.url = f"http://{said.split()[1]}"
 

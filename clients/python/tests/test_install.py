@@ -18,7 +18,8 @@ def can_install(python):
         "import setuptools; from importlib.util import find_spec as finds; "
         "assert finds('pip') and (finds('wheel') or int(setuptools.__version__.split('.')[0]) > 70)"
     )
-    return os.path.exists(python) and not subprocess.run([python, "-c", makes], stderr=subprocess.DEVNULL).returncode
+    how = {"stderr": subprocess.DEVNULL, "timeout": 60}
+    return os.path.exists(python) and not subprocess.run([python, "-c", makes], **how).returncode
 
 
 class Install(unittest.TestCase):

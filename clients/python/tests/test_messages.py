@@ -15,7 +15,7 @@ from capsched import (
     Fault, FinishMaster, Grant, Heartbeat, HeartbeatReply, NodeGone, QueueInfo, QueueReport, Refresh, Refusal, Refused,
     RegisterMaster, RegisterNode, Replay, Resource, SetQueueState, SettingsFault, Submit, frame,
 )
-from serving import PROGRAM, TOP, serve, wait_until
+from serving import PROGRAM, TOP, line_of, serve, wait_until
 
 QUEUES = "yarn.scheduler.capacity.root.queues=default"
 SETTINGS = [QUEUES, "yarn.scheduler.capacity.root.default.capacity=[memory=4096,vcores=4]"]
@@ -352,7 +352,7 @@ class Served(unittest.TestCase):
             with self.assertRaises(Refused) as raised:
                 master.allocate(app, response)
             self.assertEqual(raised.exception.refusal, Refusal.UNKNOWN_APPLICATION)
-        self.assertRegex(daemon.stdout.readline(), r"^closed epochs=1 entries=\d+\n$")
+        self.assertRegex(line_of(daemon), r"^closed epochs=1 entries=\d+\n$")
         self.assertEqual(daemon.wait(20), 0)
 
     def test_a_container_with_a_gpu_beside_a_client_of_version_1(self):

@@ -282,7 +282,7 @@ class Whole(Case):
                         resource = Resource(int(row["memory"]), int(row["vcores"]))
                         connection.allocate(app, 0, [Ask(int(row["priority"]), 0, int(row["containers"]), resource)])
                         apps[app], left[app] = (str(name), int(row["duration_ms"])), int(row["containers"])
-                while True:
+                for _ in range(1000):
                     cluster.copy(0)
                     proposal = cluster.propose(0, start)
                     if proposal == ["none"]:
@@ -295,6 +295,8 @@ class Whole(Case):
                         first, _, end = times.get(name, (now, now, 0))
                         times[name] = (first, now, max(end, now + duration))
                         ends.append((now + duration, node, int(verdict[3]), app))
+                else:
+                    self.fail("the worker finds something to propose for ever")
                 if len(apps) == len(rows) and not any(left.values()):
                     return times
         self.fail("the slow simulation has not ended after a minute of simulated time")
