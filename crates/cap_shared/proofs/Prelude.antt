@@ -28,6 +28,7 @@ pub use Rattle.cap_model.specs.declared.request.Request.{Request}
 pub use Rattle.cap_shared.specs.Calls.{HasMore}
 pub use Rattle.cap_shared.specs.Journal.{AllHonest, IsBy, NoteHolds, NotesHold, Replays, Rises, TagsBelow, end_after, end_of, events_in, position_of, receipt_for, receipts_in, seat_entries, start_of, state_after}
 pub use Rattle.cap_shared.specs.Laws.{JournalsLeadToStates, JournalsStayBounded}
+pub use Rattle.cap_commit.specs.Admission.{taken_back}
 pub use Rattle.cap_commit.specs.Making.{event_of_made}
 pub use Rattle.cap_shared.specs.Parts.{Content, IsDesk, IsSeat, IsShown, report_of}
 pub use Rattle.cap_shared.specs.Passes.{IsEntered, IsNoted, Pass}
