@@ -6,7 +6,7 @@ use Rattle.cap_model.specs.Replies.{after_request}
 use Rattle.cap_copy.proofs.Ranging.{last_at}
 use Rattle.cap_shared.specs.Calls.{CallsOk}
 use Rattle.cap_shared.specs.declared.entry.Receipt.TheVariants as receipt
-use Rattle.cap_shared.specs.declared.making.Made.TheVariants as made
+use Rattle.cap_commit.specs.declared.made.Made.TheVariants as made
 use Rattle.cap_shared.proofs.Lists.{receipts_in-told}
 
 pub call_step : (old new : Flat resources) (by : ℕ) (request q : Request resources) (reply r : Reply resources) → Replies old request reply new → q ≡ request → r ≡ reply → Step old (event.Call by q r) new
@@ -16,18 +16,18 @@ call_step old new by request q reply r is same_q same_r = subst (λ (x : Event r
 pub unchanged : (old new : Flat resources) (request : Request resources) (reply : Reply resources) → Replies old request reply new → is_no_memory reply ≡ true → new ≡ old
 unchanged old new request reply is none = step_is_determined resources old new (event.Call 0 request reply) is ∙ ap (λ (b : Bool). if b then old else (after_request old request)) none
 
-made_by : (n : ℕ) (m : Made) → IsBy n (event_of_made m)
+made_by : (n : ℕ) (m : Made resources) → IsBy n (event_of_made m)
 made_by n (made.Grant c) = tt
 made_by n (made.Reserve r) = tt
 
-pub event_by : (n : ℕ) (m : Made) (e : Event resources) → e ≡ event_of_made m → IsBy n e
+pub event_by : (n : ℕ) (m : Made resources) (e : Event resources) → e ≡ event_of_made m → IsBy n e
 event_by n m e is = subst (λ (x : Event resources). IsBy n x) (sym is) (made_by n m)
 
-made_receipt : (n : ℕ) (m : Made) → receipt_for n (event_of_made m) ≡ receipt.Commit n (event_of_made m)
+made_receipt : (n : ℕ) (m : Made resources) → receipt_for n (event_of_made m) ≡ receipt.Commit n (event_of_made m)
 made_receipt n (made.Grant c) = refl
 made_receipt n (made.Reserve r) = refl
 
-pub event_receipt : (n : ℕ) (m : Made) (e f : Event resources) → e ≡ event_of_made m → f ≡ event_of_made m → receipt.Commit n f ≡ receipt_for n e
+pub event_receipt : (n : ℕ) (m : Made resources) (e f : Event resources) → e ≡ event_of_made m → f ≡ event_of_made m → receipt.Commit n f ≡ receipt_for n e
 event_receipt n m e f e_is f_is = ap (λ (x : Event resources). receipt.Commit n x) f_is ∙ sym (made_receipt n m) ∙ ap (λ (x : Event resources). receipt_for n x) (sym e_is)
 
 -- the last receipt of a seat whose call was answered is that of the call

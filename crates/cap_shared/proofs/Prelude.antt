@@ -28,7 +28,8 @@ pub use Rattle.cap_model.specs.declared.request.Request.{Request}
 pub use Rattle.cap_shared.specs.Calls.{HasMore}
 pub use Rattle.cap_shared.specs.Journal.{AllHonest, IsBy, NoteHolds, NotesHold, Replays, Rises, TagsBelow, end_after, end_of, events_in, position_of, receipt_for, receipts_in, seat_entries, start_of, state_after}
 pub use Rattle.cap_shared.specs.Laws.{JournalsLeadToStates, JournalsStayBounded}
-pub use Rattle.cap_shared.specs.Making.{event_of_made}
+pub use Rattle.cap_commit.specs.Admission.{taken_back}
+pub use Rattle.cap_commit.specs.Making.{event_of_made}
 pub use Rattle.cap_shared.specs.Parts.{Content, IsDesk, IsSeat, IsShown, report_of}
 pub use Rattle.cap_shared.specs.Passes.{IsEntered, IsNoted, Pass}
 pub use Rattle.cap_shared.specs.WordRule.{Addition, AllFit, Enters, Fits, Holds, IsAdded, IsCompared, IsOf, Knows, Notes, NotesBegin, Nothing, addition_of, first_view, fresh, head_of, keeper, log_after, nobody, only_first, past_after, rest_of, sits_after, sitter, sitting, sitting_of, times, total, view_of, view_with, with_guest, without_first}
@@ -40,5 +41,5 @@ pub use Rattle.cap_shared.specs.declared.history.Moment.TheVariants.{Entered, No
 pub use Rattle.cap_shared.specs.declared.history.NotedAnswer.{NotedAnswer}
 pub use Rattle.cap_shared.specs.declared.history.Sitting.{Sitting}
 pub use Rattle.cap_shared.specs.declared.history.View.{View}
-pub use Rattle.cap_shared.specs.declared.making.Made.{Made}
+pub use Rattle.cap_commit.specs.declared.made.Made.{Made}
 pub use Rattle.cap_shared.specs.declared.shown.ShownLast.{ShownLast}

@@ -1,7 +1,6 @@
 pub mod Calls
 pub mod Journal
 pub mod Laws
-pub mod Making
 pub mod Parts
 pub mod Passes
 pub mod Rooms

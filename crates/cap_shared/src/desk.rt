@@ -6,6 +6,7 @@ ghost use Rattle.cap_base.specs.Limits.{resources};
 ghost use Rattle.cap_copy.specs.Snapshot.{sight_in};
 ghost use Rattle.cap_copy.specs.Sources.{sight_of_copy};
 ghost use Rattle.cap_model.specs.Admission.{reason_of};
+ghost use Rattle.cap_commit.specs.Admission.{taken_back};
 ghost use Rattle.cap_shared.specs.Calls.{CallsOk, IsCalledOn, CallMisses, CommitAnswers, CommitsBack, CopyIs, TellsFull, TellsFullFirst};
 
 use crate::call_room::{CallRoom, is_no_memory, make_call, own_copies};
@@ -25,6 +26,7 @@ use cap_commit::Cluster;
 use cap_copy::ClusterCopy;
 use cap_model::{Event, NoMemory, OwnedReply, Proposal, Request, StoredRequest, Verdict};
 use cap_sights::{copy_in, snapshot_of};
+use cap_vector::Resource;
 use std::alloc::Global;
 use std::marker::{Model, PhantomData};
 use std::sync::Arc;
@@ -200,35 +202,39 @@ impl<J: Naming> Desk<J> {
             );
             return Err(CommitFault::Sealed(proposal));
         }
-        if let Some(reason) = self.cluster.reason(&proposal) {
-            note_rejected(
-                word,
-                &mut self.pass,
-                &self.journal,
-                &mut seat.pass,
-                &proposal,
-                &reason,
-            );
-            return Ok(Verdict::Rejected(reason));
+        match self.cluster.admit(&proposal) {
+            Ok(old) => self.make(word, seat, proposal, &old),
+            Err(reason) => {
+                note_rejected(
+                    word,
+                    &mut self.pass,
+                    &self.journal,
+                    &mut seat.pass,
+                    &proposal,
+                    &reason,
+                );
+                Ok(Verdict::Rejected(reason))
+            }
         }
-        self.make(word, seat, proposal)
     }
 
-    /// Makes a proposal that is admissible, with room in the journal.
+    /// Makes a proposal that was admitted, and takes this room back, with room in the journal.
     fn make(
         &mut self,
         word: &Word,
         seat: &mut Seat<J>,
         proposal: Proposal<RESOURCES>,
+        old: &Resource<RESOURCES>,
     ) -> Result<Verdict<RESOURCES>, CommitFault>
         requires word { (word.now.table_id ≡ J.table) × (0 < word.now.table_id.words) }
         requires room { length self.old.log < J.limit }
         requires admitted { reason_of (sight_of self.old.cluster) proposal ≡ None }
+        requires old { old.now ≡ taken_back (sight_of self.old.cluster) proposal }
         ensures answer { MatchResult result (CommitAnswers proposal seat.old seat.new)
             (CommitsBack proposal J.limit seat.old seat.new) }
         ensures full { IfErr result (TellsFullFirst J.limit self.old.log) }
     {
-        let Ok(made) = make_proposed(&mut self.cluster, &mut seat.receipts, &proposal) else {
+        let Ok(made) = make_proposed(&mut self.cluster, &mut seat.receipts, &proposal, old) else {
             note_no_memory(
                 word,
                 &mut self.pass,

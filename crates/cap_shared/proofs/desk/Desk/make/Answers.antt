@@ -1,4 +1,4 @@
-use Rattle.cap_shared.proofs.Prelude.{◌≡◌, None, [], ◌∷◌, ◌++◌, length, ap, sym, ◌∙◌, subst, arith, resources, sight_of, reason_of, Step, Event, Entered, Content}
+use Rattle.cap_shared.proofs.Prelude.{◌≡◌, None, [], ◌∷◌, ◌++◌, length, ap, sym, ◌∙◌, subst, arith, rejected_exactly, resources, sight_of, reason_of, taken_back, Step, Event, Entered, Content}
 use Rattle.cap_model.specs.Verdicts.{IsOf}
 use Rattle.cap_shared.specs.declared.entry.Receipt.TheVariants as receipt
 use Rattle.cap_shared.specs.declared.history.NotedAnswer.TheVariants as answer
@@ -7,12 +7,15 @@ use Rattle.cap_shared.proofs.Pasts.{noted_seat, entered_seat, entered_desk}
 use Rattle.cap_shared.proofs.desk.Desk.make.Goals as goal
 
 pub make_proposed-requires : goal.make_proposed-requires
-make_proposed-requires g c =
-    subst (λ (v : Content). reason_of (sight_of v.cluster) c.args.proposal ≡ None) (sym c.self.view_is) c.requires.admitted
+make_proposed-requires g c = record {
+  passes = subst (λ (v : Content). reason_of (sight_of v.cluster) c.args.proposal ≡ None) (sym c.self.view_is) c.requires.admitted;
+  old = subst (λ (v : Content). c.args.old.now ≡ taken_back (sight_of v.cluster) c.args.proposal) (sym c.self.view_is) c.requires.old;
+}
 
 pub invariant_of-seat : goal.invariant_of-seat
 invariant_of-seat g c =
-    noted_seat _ _ _ _ c.self.inside.journal.items c.self.inside.pass c.note_no_memory.new.desk c.seat.inside.pass c.note_no_memory.new.seat _ _ _ c.self.inside.cluster.flat (answer.NoMemory c.args.proposal) c.seat.invariant c.note_no_memory.ensures c.in_default.ensures.receipts c.self.invariant.run c.in_default.ensures.admissible
+    noted_seat _ _ _ _ c.self.inside.journal.items c.self.inside.pass c.note_no_memory.new.desk c.seat.inside.pass c.note_no_memory.new.seat _ _ _ c.self.inside.cluster.flat (answer.NoMemory c.args.proposal) c.seat.invariant c.note_no_memory.ensures c.in_default.ensures.receipts c.self.invariant.run
+    ((rejected_exactly resources (sight_of c.self.inside.cluster.flat) c.args.proposal).0 (subst (λ (v : Content). reason_of (sight_of v.cluster) c.args.proposal ≡ None) (sym c.self.view_is) c.requires.admitted))
 
 pub invariant_of-self-2 : goal.invariant_of-self-2
 invariant_of-self-2 g c =
