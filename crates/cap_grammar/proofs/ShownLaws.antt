@@ -46,12 +46,12 @@ body_shown version _ = refl
 
 -- and is of the same kinds
 pub shown_of_kind : {K : ℕ} (n kind : ℕ) (reply : Reply K) → IsOfKind kind reply → IsOfKind kind (shown n reply)
-shown_of_kind n kind (Reply.Refused refusal) of_kind = tt
+shown_of_kind n kind (Reply.Refused refusal) of_kind = of_kind
 shown_of_kind n kind Reply.Refresh of_kind = of_kind
 shown_of_kind n kind _ of_kind = of_kind
 
 pub of_kind_shown : {K : ℕ} (n kind : ℕ) (reply : Reply K) → IsOfKind kind (shown n reply) → IsOfKind kind reply
-of_kind_shown n kind (Reply.Refused refusal) of_kind = tt
+of_kind_shown n kind (Reply.Refused refusal) of_kind = of_kind
 of_kind_shown n kind Reply.Refresh of_kind = of_kind
 of_kind_shown n kind _ of_kind = of_kind
 

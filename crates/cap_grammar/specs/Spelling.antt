@@ -223,9 +223,14 @@ reply_body version Reply.Refresh = 0 ∷ []
 abbrev pub reply_bytes : {K : ℕ} → Head → ℕ → Reply K → List ℕ
 reply_bytes head kind reply = head.version ∷ kind ∷ to_be_bytes w32 head.call_id ++ reply_body head.version reply
 
--- a refusal, or a reply of this kind
+-- a refusal that a request of this kind may get: a Refresh alone is told of a fault of its property lines
+abbrev pub IsRefusalOf : ℕ → Refusal → Type 0
+IsRefusalOf kind (Refusal.BadSettings line number) = kind ≡ 11
+IsRefusalOf kind _ = Unit {0}
+
+-- a reply to a request of this kind: what it gives, or a refusal that it may get
 abbrev pub IsOfKind : {K : ℕ} → ℕ → Reply K → Type 0
-IsOfKind kind (Reply.Refused refusal) = Unit {0}
+IsOfKind kind (Reply.Refused refusal) = IsRefusalOf kind refusal
 IsOfKind kind (Reply.Submit app) = kind ≡ 1
 IsOfKind kind (Reply.RegisterMaster minimum maximum) = kind ≡ 2
 IsOfKind kind (Reply.Allocate reply) = kind ≡ 3

@@ -3,14 +3,14 @@ ghost use Rattle.std.specs.Prelude.{◌≡◌, IfOk, true};
 ghost use Rattle.cap_grammar.specs.Answers.{IsKindly, IsReadAs, Says};
 ghost use Rattle.cap_grammar.specs.Versions.{is_version};
 ghost use Rattle.cap_base.specs.Limits.{resources};
-ghost use Rattle.cap_grammar.specs.Spelling.{IsFaultStatus};
+ghost use Rattle.cap_grammar.specs.Spelling.{IsFaultStatus, IsRefusalOf};
 
 use crate::fault::MessageFault;
 use crate::fields::{byte_of, u32_of};
 use crate::head::{Head, has_version};
 use crate::output::{Out, REPLY_ROOM};
 use crate::replies::{BAD_LENGTH, BAD_MESSAGE, granted_of, kind_of, write_fault, write_reply};
-use crate::requests::head_of;
+use crate::requests::{REFRESH, head_of};
 use cap_base::RESOURCES;
 use cap_model::{OwnedReply, Refusal, ReplyWith};
 use std::alloc::Global;
@@ -133,12 +133,18 @@ fn reply_of(
     if status == 0 {
         return granted_of(alloc, version, kind, bytes);
     }
-    Ok(ReplyWith::Refused(refusal_of(status, bytes)?))
+    Ok(ReplyWith::Refused(refusal_of(kind, status, bytes)?))
 }
 
-/// The refusal of this status, from what follows it.
-fn refusal_of(status: u8, bytes: &[u8]) -> Result<Refusal, MessageFault> {
+/// The refusal of this status that a request of this kind may get, from what follows the status: a Refresh alone is told of a fault
+/// of its property lines.
+fn refusal_of(kind: u8, status: u8, bytes: &[u8]) -> Result<Refusal, MessageFault>
+    ensures { IfOk result (λ refusal. IsRefusalOf kind refusal) }
+{
     if status == BAD_SETTINGS {
+        if kind != REFRESH {
+            return Err(MessageFault::Bad);
+        }
         let (line, rest) = u32_of(bytes)?;
         let (number, _) = byte_of(rest)?;
         return Ok(Refusal::BadSettings { line, number });

@@ -227,7 +227,7 @@ answer_narrow (Reply.ClusterInfo r) = rw (resource_narrow r.totals, resource_nar
 answer_narrow _ = refl
 
 of_kind_narrow : (kind : ℕ) (reply : Reply resources) → IsOfKind kind reply → IsOfKind kind (narrow_reply {K = 2} reply)
-of_kind_narrow kind (Reply.Refused refusal) of_kind = tt
+of_kind_narrow kind (Reply.Refused refusal) of_kind = of_kind
 of_kind_narrow kind _ of_kind = of_kind
 
 grants_fit : (grants : List Grant) → AllByRecursion (FitsGrant 3) grants → AllByRecursion (FitsGrant 2) (map (narrow_grant 2) grants)
