@@ -1,8 +1,9 @@
-//! What tests of several crates need: settings and the cluster that they open, changes of a tree, requests as frames, an epoch, and a count
-//! that threads wait for.
+//! What tests of several crates need: settings and the cluster that they open, whether two clusters show the same, changes of a tree,
+//! requests as frames, an epoch, and a count that threads wait for.
 //! The spelling of frames is written by hand and shares no code with the engine.
 #![tactic(auto)]
 
+mod alike;
 mod epochs;
 mod mark;
 mod settings;
@@ -10,6 +11,7 @@ mod spelling;
 mod table;
 mod tree;
 
+pub use alike::{are_alike, is_same, report_alike};
 pub use epochs::{Work, epoch};
 pub use mark::Mark;
 pub use settings::{NESTED_QUEUES, SMALL_QUEUES, TWO_QUEUES, cluster, cluster_after, make_call};

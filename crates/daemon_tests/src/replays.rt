@@ -1,4 +1,3 @@
-//! Replays: the program's words and streams, and scripts of which each allocation is refused in turn.
-mod play;
+//! Replays: the program's words and streams, and a script of which each allocation is refused in turn.
 mod refusals;
 mod streams;

@@ -1,4 +1,4 @@
-//! Tests of frames: streams in any cutting, bad lengths, the longest payload, refused memory.
+//! Tests of frames: streams in any cutting, bad lengths, the longest payload.
 ghost use Rattle.std.specs.Prelude.{◌<◌};
 
 use bytes::BytesMut;
@@ -144,33 +144,4 @@ fn a_frame_is_its_length_and_its_payload(rt: HostRuntime) {
     let mut out = BytesMut::new(rt.alloc());
     assert!(rt; put_both(&mut out).is_some());
     assert!(rt; out.as_slice() == &STREAM[..12]);
-}
-
-/// Whether no more is given and taken without memory.
-fn is_spent(framer: &mut Framer) -> bool {
-    next(framer, &[]) == Given::NoMemory
-        && framer.feed(STREAM).is_err()
-        && next(framer, &[]) == Given::NoMemory
-}
-
-/// Whether the payloads of the stream come, and then nothing, or there is no memory.
-fn gives_no_wrong_answer(framer: &mut Framer) -> bool {
-    if framer.feed(STREAM).is_err() && framer.feed(STREAM).is_err() {
-        return false;
-    }
-    for &payload in &PAYLOADS {
-        match next(framer, payload) {
-            Given::Wanted => {}
-            Given::NoMemory => return is_spent(framer),
-            _ => return false,
-        }
-    }
-    next(framer, &[]) == Given::Nothing
-}
-
-// Under `--fail-alloc` this passes whichever allocation fails.
-#[test]
-fn refused_memory_is_never_a_wrong_answer(rt: HostRuntime) {
-    let mut framer = Framer::new(rt.alloc()).expect(&rt, "no memory");
-    assert!(rt; gives_no_wrong_answer(&mut framer));
 }

@@ -1,15 +1,8 @@
-//! Payloads that are read, calls and commits, copies and snapshots, sessions, worlds and shared clusters of which each
-//! allocation is refused in turn, and what takes none.
-mod acts;
+//! What is made where each allocation is refused in turn, and what takes none.
 mod calls;
-mod copies;
-mod epochs;
-mod fixture;
 mod frugal;
-mod readings;
+mod heaps;
 mod sessions;
 mod shared;
-mod shortage;
-mod table;
 mod trees;
 mod worlds;

@@ -1,4 +1,4 @@
-//! Tests of sessions: streams cut anywhere, bad messages and lengths, what follows the end, refused memory.
+//! Tests of sessions: streams cut anywhere, bad messages and lengths, what follows the end.
 ghost use Rattle.std.specs.Prelude.{◌≡◌, []};
 
 use cap_model::{Refusal, ReplyWith};
@@ -111,32 +111,6 @@ fn nothing_is_taken_after_the_end(rt: HostRuntime) {
     let fed = Fed::Ended(SessionCause::BadLength);
     let next = Some(SessionCause::BadLength);
     assert!(rt; after_the_end(rt.alloc()) == Some(([fed, fed], [next, next], true)));
-}
-
-/// Whether what was answered stands where an allocation fails, and all is answered where none does.
-fn keeps_answers(alloc: Global) -> Option<bool> {
-    let mut session = Session::open(alloc).ok()?;
-    let (first, second) = TWO.split_at_checked(10)?;
-    session.feed(first);
-    refuse_all(&mut session);
-    let answered = session.unsent().len();
-    session.feed(second);
-    let ended = refuse_all(&mut session);
-    let unsent = session.unsent();
-    Some(match ended {
-        None => unsent == TWO_REFUSED,
-        Some(cause) => {
-            cause == SessionCause::NoMemory
-                && unsent.len() >= answered
-                && TWO_REFUSED.starts_with(unsent)
-        }
-    })
-}
-
-// Under `--fail-alloc` this passes whichever allocation fails.
-#[test]
-fn refused_memory_keeps_what_was_answered(rt: HostRuntime) {
-    assert!(rt; keeps_answers(rt.alloc()) != Some(false));
 }
 
 /// Takes so many bytes a write, and fails after a limit.

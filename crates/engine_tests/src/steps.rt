@@ -148,27 +148,3 @@ fn steps_are_answered(rt: HostRuntime) {
         assert!(rt; given == Some((done, events, is_open, true)), "row {i}");
     }
 }
-
-/// How many steps were made of a RegisterNode and a ClusterInfo, how long the output is, and its eleventh byte.
-fn done_and_output(alloc: Global) -> Option<(usize, usize, u8)> {
-    let steps = [Step::Open(1), Step::Bytes(1, NODE), Step::Bytes(1, INFO)];
-    let outcome = run(alloc, &steps)?;
-    let output = outcome.world.output(1);
-    Some((
-        outcome.done,
-        output.len(),
-        output.get(10).copied().unwrap_or(0),
-    ))
-}
-
-// Under `--fail-alloc` this passes whichever allocation fails: a refusal is answered, and no answer changes in its place.
-#[test]
-fn refused_memory_changes_no_answer(rt: HostRuntime) {
-    let is_well = match done_and_output(rt.alloc()) {
-        None => true,
-        Some((0 | 1, length, _)) => length == 0,
-        Some((2, length, status)) => length == 19 || length == 11 && status == 20,
-        Some((_, length, status)) => length == 74 || length == 66 && status == 20,
-    };
-    assert!(rt; is_well);
-}

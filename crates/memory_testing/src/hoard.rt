@@ -10,7 +10,7 @@ const BLOCKS: usize = 200_000;
 const PIECES: usize = 20_000;
 
 /// The room is so many blocks of so many bytes, each too small to be mapped by itself.
-const ROOM_BLOCKS: usize = 64;
+const ROOM_BLOCKS: usize = 128;
 
 const ROOM_BLOCK: usize = 65_536;
 
@@ -29,15 +29,20 @@ const LARGEST: usize = 1 << 46;
 /// The largest piece of the room, as large as the room.
 const LARGEST_PIECE: usize = ROOM_BLOCKS * ROOM_BLOCK;
 
+/// Where so many bytes are left, an allocation of so many more is refused.
+const MORE: usize = 64;
+
 /// How many bytes of the stack a hoard fills: 1 MiB.
 const STACK: usize = 1 << 20;
 
-/// All that the system gives this process, kept so that nobody else has it, but for a room of 64 blocks of 65,536 bytes in which fixtures
+/// All that the system gives this process, kept so that nobody else has it, but for a room of 128 blocks of 65,536 bytes in which fixtures
 /// are made. It lasts until it is dropped.
 #[derive(Drop)]
 pub struct Hoard {
     kept: Vec<Vec<u8>>,
     pieces: Vec<Vec<u8>>,
+    takes: bool,
+    is_short: bool,
 }
 
 /// Takes blocks of this size until one is refused.
@@ -128,12 +133,37 @@ impl Hoard {
         take_rest(alloc, &mut kept, LARGEST);
         drop(stacks);
         drop(blocks);
-        Some(Hoard { kept, pieces })
+        Some(Hoard {
+            kept,
+            pieces,
+            takes: true,
+            is_short: false,
+        })
+    }
+
+    /// One that takes nothing and leaves all: with it, what is refused is up to whoever runs the program.
+    pub fn of_nothing(alloc: Global) -> Hoard {
+        Hoard {
+            kept: Vec::new(alloc),
+            pieces: Vec::new(alloc),
+            takes: false,
+            is_short: false,
+        }
     }
 
     /// Takes the room too, but for so many bytes in one piece: an allocation that needs more than what is left of them is refused, until
     /// `give`. What is made while they are left is no message of a test, which needs memory itself. At most 1 MiB can be left.
     pub fn leave(&mut self, alloc: Global, bytes: usize) {
+        if !self.takes {
+            return;
+        }
+        self.is_short = false;
+        self.take_but(alloc, bytes);
+        self.is_short = !self.has_left(alloc, bytes.saturating_add(MORE));
+    }
+
+    /// Takes all but so many bytes in one piece.
+    fn take_but(&mut self, alloc: Global, bytes: usize) {
         let Ok(piece) = Vec::<u8>::with_capacity(alloc, WHOLE.saturating_add(bytes)) else {
             return;
         };
@@ -143,6 +173,11 @@ impl Hoard {
             return;
         };
         let _ = self.pieces.push(front);
+    }
+
+    /// Whether 64 bytes more than the last `leave` left could not be had right after it.
+    pub fn is_short(&self) -> bool {
+        self.is_short
     }
 
     /// Whether `leave` left so many bytes, a multiple of 16 and at least 32, and nothing has taken of them since.

@@ -16,6 +16,8 @@ pub enum Came {
     Refused,
     /// What it is answered with all memory; so is what stands.
     Done,
+    /// An allocation was refused before the call or after it.
+    Beside,
     /// Anything else.
     Other,
 }
@@ -31,6 +33,8 @@ pub enum Turns {
     NeverDone,
     /// Something else came where so many bytes were left.
     Other(usize),
+    /// There were more than so many bytes where no more were to be left.
+    NotShort(usize),
     /// There is no hoard.
     NoHoard,
 }
@@ -46,10 +50,11 @@ pub fn refuse_in_turn<F: Fn(Global, &mut Hoard, usize) -> Came>(alloc: Global, c
     for turn in 0..TURNS {
         let bytes = turn.saturating_mul(STEP);
         match call(alloc, &mut hoard, bytes) {
+            Came::Beside | Came::Other => return Turns::Other(bytes),
+            _ if !hoard.is_short() => return Turns::NotShort(bytes),
             Came::Refused => {}
             Came::Done if turn == 0 => return Turns::NeverRefused,
             Came::Done => return Turns::Refused,
-            Came::Other => return Turns::Other(bytes),
         }
     }
     Turns::NeverDone

@@ -1,7 +1,7 @@
 //! Tests of the program's words and streams: exit statuses, readers and writers that fail, refused memory.
 
-use crate::replays::play::{count_lines, line_of, play_into};
 use cap_daemon::{Counted, run};
+use refusal_cases::{count_lines, line_of, play_into};
 use std::alloc::{AllocError, Global};
 use std::cell::Cell;
 use std::io::{self, Read, Write};
@@ -442,81 +442,4 @@ static ROWS: [Row; 33] = [
 #[test]
 fn the_program_ends_as_it_should(rt: HostRuntime) {
     assert_eq!(rt; unlike(&rt, &ROWS), None);
-}
-
-/// Whether a script was played to its end, or says last that there was no memory.
-fn is_told(status: u8, printed: &[u8]) -> bool {
-    match status {
-        0 => printed.len() == 9 + 117 + 9,
-        3 => {
-            printed.ends_with(b"no memory\n")
-                && (printed.starts_with(b"opened 1\n") || printed.len() == 10)
-        }
-        _ => false,
-    }
-}
-
-// Under `--fail-alloc` this passes whichever allocation fails: no answer changes in place of the refusal.
-#[test]
-fn refused_memory_is_told(rt: HostRuntime) {
-    let script = b"open 1\nbytes 1 00000006010a00000001\nend 1\n";
-    let mut room = [0u8; 200];
-    let (status, printed) = play_into(rt.alloc(), script, &mut room);
-    assert!(rt; is_told(status, printed));
-}
-
-/// A call of each kind that a master makes.
-const MASTERS: &[u8] = b"conf yarn.scheduler.capacity.root.queues=a\n\
-    open 1\n\
-    bytes 1 0000001001010000000106726f6f742e61027531\n\
-    bytes 1 0000000e0102000000030000000000000001\n\
-    bytes 1 0000003801030000000500000000000000010000000000010000000100000000000000000000000100000000000004000000000000000001012a0000\n\
-    bytes 1 0000003801030000000500000000000000010000000000010000000100000000000000000000000100000000000004000000000000000001012a0000\n\
-    bytes 1 0000000e0104000000040000000000000001\n";
-
-/// What it prints, line by line.
-static ANSWERS: [&[u8]; 7] = [
-    b"opened 1",
-    b"out 1 0000000f010100000001000000000000000001",
-    b"out 1 00000027010200000003000000000000000400000000000000000100000000000020000000000000000004",
-    b"out 1 0000000f010300000005000000000100000000",
-    b"out 1 0000000f010300000005000000000100000000",
-    b"out 1 0000000b0104000000040000000000",
-    b"",
-];
-
-/// The first line that is neither as ever, nor of a Submit or an Allocate that memory was refused, nor of an application that such a Submit did
-/// not make, nor the last of a script that stops.
-fn first_unlike(status: u8, printed: &[u8]) -> Option<usize> {
-    let mut is_unknown = false;
-    for (i, answer) in ANSWERS.iter().enumerate() {
-        let Some(line) = line_of(printed, i) else {
-            break;
-        };
-        let is_refused = matches!(i, 1 | 3 | 4) && line.ends_with(b"14");
-        is_unknown = is_unknown || is_refused && i == 1;
-        let is_last = status == 3 && (line.is_empty() || line == b"no memory".as_slice());
-        if line != *answer && !is_refused && !(is_unknown && line.ends_with(b"05")) && !is_last {
-            return Some(i);
-        }
-    }
-    None
-}
-
-/// Whether a script that has ended has printed all lines, or says last that there was no memory.
-fn is_ended(status: u8, printed: &[u8]) -> bool {
-    match status {
-        0 => count_lines(printed) == 7,
-        _ => status == 3 && printed.ends_with(b"no memory\n"),
-    }
-}
-
-// Under `--fail-alloc` this passes whichever allocation fails: a call is answered as ever, or a Submit or an Allocate that memory
-// was refused; after such a Submit the others know no application; and a script that stops says so last.
-#[test]
-fn refused_memory_is_told_to_masters(rt: HostRuntime) {
-    let mut room = [0u8; 400];
-    let (status, printed) = play_into(rt.alloc(), MASTERS, &mut room);
-    assert_eq!(rt; first_unlike(status, printed), None);
-    assert!(rt; is_ended(status, printed));
 }

@@ -1,11 +1,11 @@
 //! Tests of calls and commits that take no memory: they are answered where no bytes are left, and take none of many.
 //! A call that is refused, repeated or rejected is among them. No test reaches the last number of an application, a node or a container,
 //! nor 65,536 live containers.
-use crate::refusals::fixture::{Answered, Row, Step, takes_none};
-use crate::refusals::table::{ALLOCATE, BEAT, Before, MASTER, NODE, ONE, OTHER_LIMITS};
 use cap_model::Reason;
 use cap_testing::{Call, WantedContainers};
 use memory_testing::Hoard;
+use refusal_cases::table::{ALLOCATE, BEAT, MASTER, NODE, ONE, OTHER_LIMITS};
+use refusal_cases::{Answered, Before, Row, Step, takes_none};
 use std::alloc::Global;
 
 /// The first of these rows whose step does take memory or is answered otherwise; the number of rows where there is no hoard.

@@ -1,8 +1,6 @@
 //! Trees of queues, proposals and frames: none of their calls takes memory, where the room of a frame was made.
 ghost use Rattle.cap_tree.specs.Spot.{IsPosition};
 
-use crate::refusals::fixture::cluster_after;
-use crate::refusals::table::Before;
 use bytes::BytesMut;
 use cap_base::RESOURCES;
 use cap_commit::Cluster;
@@ -15,6 +13,7 @@ use cap_testing::{Change, ChangeAt, TWO_QUEUES, change_queues, tree_after};
 use cap_tree::{Found, OverLimit, Path, QueueTree};
 use cap_vector::Resource;
 use memory_testing::Hoard;
+use refusal_cases::{Before, cluster_after};
 use std::alloc::Global;
 
 type Tree = QueueTree<RESOURCES, Global>;
@@ -104,7 +103,7 @@ fn changed(
     let did_end = change_queues(tree, &ENDED).is_some();
     let ended = shown(tree);
     hoard.give();
-    if grew && did_end {
+    if grew && did_end && hoard.is_short() {
         Some((grown, child, ended))
     } else {
         None
@@ -148,6 +147,9 @@ fn proposed(
     hoard.leave(alloc, 0);
     let proposal = propose(snapshot, 0);
     hoard.give();
+    if !hoard.is_short() {
+        return None;
+    }
     let proposal = proposal?;
     let [memory, ..] = proposal.resource().amounts();
     Some((proposal.node(), memory))
@@ -181,7 +183,7 @@ fn put(alloc: Global, hoard: &mut Hoard, out: &mut BytesMut) -> bool {
     hoard.leave(alloc, 0);
     let put = put_frame(out, b"one");
     hoard.give();
-    put.is_ok() && out.as_slice() == b"\0\0\0\x03one".as_slice()
+    hoard.is_short() && put.is_ok() && out.as_slice() == b"\0\0\0\x03one".as_slice()
 }
 
 fn put_in_room(alloc: Global) -> bool {

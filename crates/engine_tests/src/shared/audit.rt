@@ -2,10 +2,9 @@
 use cap_base::RESOURCES;
 use cap_commit::Cluster;
 use cap_messages::dispatch;
-use cap_model::{
-    Event, OwnedReply, PathText, Proposal, ProposalKind, ReplyView, ReplyWith, Request, Verdict,
-};
+use cap_model::{Event, OwnedReply, PathText, Proposal, ProposalKind, Request, Verdict};
 use cap_shared::{Closed, Entry, Receipt, SeatReport};
+use cap_testing::is_same;
 use std::alloc::Global;
 
 /// Whether each entry of the journal comes to the same on this cluster, one after the other.
@@ -75,56 +74,6 @@ fn is_reserved(cluster: &mut Cluster<RESOURCES>, proposal: Proposal<RESOURCES>) 
         return false;
     };
     matches!(&verdict, Verdict::Done(Event::Reserve { .. }))
-}
-
-/// Whether two replies are the same.
-pub fn is_same(a: &ReplyView<'_, RESOURCES>, b: &ReplyView<'_, RESOURCES>) -> bool {
-    match (a, b) {
-        (ReplyWith::Refused(a), ReplyWith::Refused(b)) => a == b,
-        (ReplyWith::Submit { app: a }, ReplyWith::Submit { app: b }) => a == b,
-        (ReplyWith::Allocate { reply: a }, ReplyWith::Allocate { reply: b }) => {
-            a.response == b.response
-                && a.ignored == b.ignored
-                && a.grants() == b.grants()
-                && a.ends() == b.ends()
-        }
-        (ReplyWith::FinishMaster { ended: a }, ReplyWith::FinishMaster { ended: b }) => a == b,
-        (ReplyWith::RegisterNode { node: a }, ReplyWith::RegisterNode { node: b }) => a == b,
-        (ReplyWith::Heartbeat { reply: a }, ReplyWith::Heartbeat { reply: b }) => a == b,
-        (ReplyWith::NodeGone { ended: a }, ReplyWith::NodeGone { ended: b }) => a == b,
-        (ReplyWith::SetQueueState, ReplyWith::SetQueueState)
-        | (ReplyWith::Refresh, ReplyWith::Refresh) => true,
-        _ => is_same_report(a, b),
-    }
-}
-
-/// Whether two replies report the same limits of containers, of a queue, or of the cluster.
-fn is_same_report(a: &ReplyView<'_, RESOURCES>, b: &ReplyView<'_, RESOURCES>) -> bool {
-    match (a, b) {
-        (
-            ReplyWith::RegisterMaster { minimum, maximum },
-            ReplyWith::RegisterMaster {
-                minimum: least,
-                maximum: most,
-            },
-        ) => minimum == least && maximum == most,
-        (ReplyWith::QueueInfo { report: a }, ReplyWith::QueueInfo { report: b }) => {
-            a.running == b.running
-                && a.leaf == b.leaf
-                && a.guaranteed == b.guaranteed
-                && a.maximum == b.maximum
-                && a.used == b.used
-                && a.apps == b.apps
-        }
-        (ReplyWith::ClusterInfo { report: a }, ReplyWith::ClusterInfo { report: b }) => {
-            a.nodes == b.nodes
-                && a.apps == b.apps
-                && a.containers == b.containers
-                && a.totals == b.totals
-                && a.used == b.used
-        }
-        _ => false,
-    }
 }
 
 /// Whether two clusters of two queues report the same of themselves and of their queues.

@@ -76,6 +76,9 @@ fn served<H: Wait>(rt: &H, alloc: Global, sink: &mut Sink) -> Option<(Ending, us
     if !serve_epoch(rt, alloc, 100, &mut line, &mut reader, &mut writer) {
         return None;
     }
+    if !hoard.is_short() {
+        return None;
+    }
     Some((line.endings.last?, line.entries))
 }
 

@@ -1,6 +1,6 @@
 //! What is done with a seat of an epoch where memory is short, and what comes of it.
-use crate::refusals::fixture::{came_of, proposal, request};
-use crate::refusals::shortage::Shortage;
+use crate::fixture::{came_of, proposal, request};
+use crate::shortage::Shortage;
 use bumpalo::Bump;
 use cap_base::RESOURCES;
 use cap_model::{Event, OwnedReply, Proposal, ProposalKind, ReplyWith, Request, Verdict};
@@ -284,9 +284,9 @@ pub fn make_act<J: Naming, H: Wait>(
     act: Act,
 ) -> Came {
     let mut tools = Tools::new(shortage.alloc, act);
-    let came = match act {
-        Act::Offer => offered(rt, shortage, shared, seat, &mut tools),
-        _ => Some(judged(rt, shortage, shared, seat, &mut tools, act, &mut [])),
-    };
-    came.unwrap_or(Came::Other)
+    match act {
+        Act::Call(_) if tools.request.is_none() => Came::Beside,
+        Act::Offer => { offered(rt, shortage, shared, seat, &mut tools).unwrap_or(Came::Beside) }
+        _ => judged(rt, shortage, shared, seat, &mut tools, act, &mut []),
+    }
 }

@@ -1,5 +1,5 @@
 //! What was done before a step (`Before`), and steps that rows share.
-use crate::refusals::fixture::Step;
+use crate::fixture::Step;
 use cap_testing::{Call, NESTED_QUEUES, SMALL_QUEUES, TWO_QUEUES, WantedContainers};
 
 /// What was done before a step.
@@ -26,6 +26,8 @@ pub enum Before {
     /// Six containers are live; then room is reserved for a large one, and one of the six has ended.
     SixLive,
     Reserved,
+    /// Eight containers are live; then room is reserved for a large one, and three of the eight have ended. None of the eight is reported yet.
+    Unreported,
     /// Two applications ask, and there are two nodes.
     Asked,
     /// One of them has a container on node 2, and a reservation after it.
@@ -126,6 +128,32 @@ static RESERVED: &[Step] = &[
     BEAT,
 ];
 
+/// Its first Allocate: eight containers, and a large one.
+const ALLOCATE_NINE: Step = Step::Call(Call::Allocate(
+    1,
+    0,
+    &[WantedContainers { count: 8, ..ONE }, LARGE],
+    &[],
+));
+
+/// Eight containers are live; then room is reserved for the large one, and containers 1 to 3 have ended.
+static UNREPORTED: &[Step] = &[
+    NODE,
+    SUBMIT,
+    MASTER,
+    ALLOCATE_NINE,
+    GRANT,
+    GRANT,
+    GRANT,
+    GRANT,
+    GRANT,
+    GRANT,
+    GRANT,
+    GRANT,
+    RESERVE,
+    Step::Call(Call::Heartbeat(1, 0, &[1, 2, 3])),
+];
+
 static ONE_NODE: &[Step] = &[NODE];
 
 static MANY_NODES: &[Step] = &[Step::Nodes(4096)];
@@ -217,6 +245,7 @@ pub fn done(before: Before) -> (&'static [u8], &'static [Step]) {
         Before::OneLive => (TWO_QUEUES, ONE_LIVE),
         Before::SixLive => (TWO_QUEUES, SIX_LIVE),
         Before::Reserved => (TWO_QUEUES, RESERVED),
+        Before::Unreported => (TWO_QUEUES, UNREPORTED),
         Before::Asked => (SMALL_QUEUES, ASKED),
         Before::Kept => (SMALL_QUEUES, KEPT),
     }

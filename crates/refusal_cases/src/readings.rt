@@ -1,16 +1,17 @@
-//! Tests of payloads that are read where memory is refused, in either version.
-use crate::refusals::fixture::came_of;
-use crate::refusals::table::ONE;
+//! Payloads that are read where memory is refused, in either version (`READINGS`).
+use crate::cases::Case;
+use crate::fixture::came_of;
+use crate::table::ONE;
 use cap_base::RESOURCES;
 use cap_messages::{MessageFault, read_request};
 use cap_model::Request;
 use cap_testing::{Call, WantedContainers, frame};
-use memory_testing::{Came, Hoard, Turns, refuse_in_turn};
+use memory_testing::{Came, Hoard};
 use std::alloc::Global;
 
 /// A call in a version, and what is read of it: how many asks and releases an Allocate has, and how many GPUs its first ask; or
 /// how many bytes the property lines of a Refresh have.
-type Row = (u8, Call<'static>, [u64; 3]);
+pub type Row = (u8, Call<'static>, [u64; 3]);
 
 /// Two asks, and three releases.
 const ALLOCATE: Call<'static> = Call::Allocate(
@@ -29,11 +30,11 @@ const ALLOCATE: Call<'static> = Call::Allocate(
 const REFRESH: Call<'static> = Call::Refresh(b"yarn.scheduler.capacity.root.queues=a,b");
 
 /// Each of which takes memory for its lists.
-const ROWS: [Row; 4] = [
-    (1, ALLOCATE, [2, 3, 0]),
-    (2, ALLOCATE, [2, 3, 4]),
-    (1, REFRESH, [39, 0, 0]),
-    (2, REFRESH, [39, 0, 0]),
+pub static READINGS: [Case; 4] = [
+    Case::Reading((1, ALLOCATE, [2, 3, 0])),
+    Case::Reading((2, ALLOCATE, [2, 3, 4])),
+    Case::Reading((1, REFRESH, [39, 0, 0])),
+    Case::Reading((2, REFRESH, [39, 0, 0])),
 ];
 
 fn shown(request: &Request<RESOURCES>) -> Option<[u64; 3]> {
@@ -73,24 +74,14 @@ fn judged(alloc: Global, hoard: &mut Hoard, bytes: usize, payload: &[u8], row: R
     }
 }
 
-fn came(alloc: Global, hoard: &mut Hoard, bytes: usize, row: Row) -> Came {
+/// What comes of reading a row's payload where so many bytes are left.
+pub fn came(alloc: Global, hoard: &mut Hoard, bytes: usize, row: Row) -> Came {
     let (version, call, _) = row;
-    match frame(alloc, version, 1, &call) {
-        Ok(frame) => match frame.get(4..) {
-            Some(payload) => judged(alloc, hoard, bytes, payload, row),
-            None => Came::Other,
-        },
-        Err(_) => Came::Other,
-    }
-}
-
-#[test]
-fn readings_are_refused(rt: HostRuntime) {
-    for &row in &ROWS {
-        let turns = refuse_in_turn(
-            rt.alloc(),
-            |alloc, hoard, bytes| came(alloc, hoard, bytes, row),
-        );
-        assert_eq!(rt; turns, Turns::Refused);
+    let Ok(frame) = frame(alloc, version, 1, &call) else {
+        return Came::Beside;
+    };
+    match frame.get(4..) {
+        Some(payload) => judged(alloc, hoard, bytes, payload, row),
+        None => Came::Other,
     }
 }

@@ -1,5 +1,5 @@
 //! Steps on a cluster, and what comes of one where memory is short.
-use crate::refusals::table::{Before, done};
+use crate::table::{Before, done};
 use cap_base::RESOURCES;
 use cap_commit::Cluster;
 use cap_config::read_config;
@@ -7,7 +7,7 @@ use cap_messages::{dispatch, read_request};
 use cap_model::{
     Config, Event, Key, Proposal, ProposalKind, Reason, Refusal, Reply, ReplyWith, Request, Verdict,
 };
-use cap_testing::{Call, WantedContainers, cluster, frame, make_call};
+use cap_testing::{Call, WantedContainers, are_alike, cluster, frame, make_call, report_alike};
 use cap_vector::Resource;
 use memory_testing::{Came, Hoard};
 use std::alloc::Global;
@@ -185,34 +185,6 @@ fn made(alloc: Global, cluster: &mut Cluster<RESOURCES>, given: &Given) -> Answe
     }
 }
 
-/// What the cluster shows: nodes, applications, containers, reservations, the next numbers, what is used and how many applications may be
-/// active; and of application 1 the asks and the last response id.
-pub fn seen(cluster: &Cluster<RESOURCES>) -> ([usize; 5], [u64; 7]) {
-    let (nodes, apps) = (cluster.nodes(), cluster.apps());
-    let (asks, response) = match apps.app(1) {
-        Some(app) => (app.asks().len(), app.response()),
-        None => (0, 0),
-    };
-    let [memory, vcores, _] = cluster.root_use().amounts();
-    let counts = [
-        nodes.count(),
-        apps.count(),
-        nodes.live_count(),
-        nodes.reservation_count(),
-        asks,
-    ];
-    let numbers = [
-        nodes.next_node(),
-        nodes.next_container(),
-        apps.next(),
-        memory,
-        vcores,
-        u64::from(response),
-        cluster.settings().application_limit,
-    ];
-    (counts, numbers)
-}
-
 /// Registers a node of (1, 1).
 fn make_node(alloc: Global, cluster: &mut Cluster<RESOURCES>, number: u32) -> Option<()> {
     let mut host = String::new(alloc);
@@ -270,37 +242,60 @@ pub fn came_of(was_refused: bool, is_so: bool) -> Came {
     }
 }
 
-/// What comes of a step where so many bytes are left, and whether all of them still are: a refusal leaves the cluster as it was, and the step
-/// is answered once memory is there again.
-fn judged(
-    alloc: Global,
-    hoard: &mut Hoard,
-    bytes: usize,
-    given: &Given,
+/// A step that is to be made, the cluster on which it is made, and another one that is as that was.
+#[derive(Drop)]
+struct Trial {
+    cluster: Cluster<RESOURCES>,
+    twin: Cluster<RESOURCES>,
+    given: Given,
     answer: Answered,
-    cluster: &mut Cluster<RESOURCES>,
-) -> (Came, bool) {
-    let before = seen(cluster);
-    hoard.leave(alloc, bytes);
-    let first = made(alloc, cluster, given);
-    let has_left = hoard.has_left(alloc, bytes);
-    hoard.give();
-    if first == answer {
-        return (Came::Done, has_left);
+}
+
+fn prepared_trial(alloc: Global, row: Row) -> Option<Trial> {
+    let (before, step, answer) = row;
+    Some(Trial {
+        cluster: cluster_after(alloc, before)?,
+        twin: cluster_after(alloc, before)?,
+        given: prepared(alloc, step)?,
+        answer,
+    })
+}
+
+impl Trial {
+    /// Makes the step on the twin too: whether that is answered, and both clusters are then alike and report the same.
+    fn ends_alike(&mut self, alloc: Global) -> bool {
+        let answer = match made(alloc, &mut self.twin, &self.given) {
+            Answered::NoMemory => made(alloc, &mut self.twin, &self.given),
+            answer => answer,
+        };
+        answer == self.answer
+            && are_alike(&self.cluster, &self.twin)
+            && report_alike(alloc, &mut self.cluster, &mut self.twin)
     }
-    let is_same = first == Answered::NoMemory && seen(cluster) == before;
-    let is_made = is_same && made(alloc, cluster, given) == answer;
-    (came_of(true, is_made), has_left)
+
+    /// What comes of the step where so many bytes are left, and whether all of them still are: a refusal leaves the cluster as it was, and
+    /// the step is answered once memory is there again.
+    fn came(&mut self, alloc: Global, hoard: &mut Hoard, bytes: usize) -> (Came, bool) {
+        hoard.leave(alloc, bytes);
+        let first = made(alloc, &mut self.cluster, &self.given);
+        let has_left = hoard.has_left(alloc, bytes);
+        hoard.give();
+        if first != Answered::NoMemory {
+            let is_so = first == self.answer && self.ends_alike(alloc);
+            return (came_of(false, is_so), has_left);
+        }
+        let is_as_before = are_alike(&self.cluster, &self.twin);
+        let second = made(alloc, &mut self.cluster, &self.given);
+        let is_so = is_as_before && second == self.answer && self.ends_alike(alloc);
+        (came_of(true, is_so), has_left)
+    }
 }
 
 /// What comes of a row where so many bytes are left, and whether all of them still are.
 fn came_and_left(alloc: Global, hoard: &mut Hoard, bytes: usize, row: Row) -> (Came, bool) {
-    let (before, step, answer) = row;
-    match (cluster_after(alloc, before), prepared(alloc, step)) {
-        (Some(mut cluster), Some(given)) => {
-            judged(alloc, hoard, bytes, &given, answer, &mut cluster)
-        }
-        _ => (Came::Other, false),
+    match prepared_trial(alloc, row) {
+        Some(mut trial) => trial.came(alloc, hoard, bytes),
+        None => (Came::Beside, false),
     }
 }
 
@@ -315,5 +310,6 @@ const MANY: usize = 65_536;
 /// Whether the row's step is answered where no bytes are left, and takes none of many.
 pub fn takes_none(alloc: Global, hoard: &mut Hoard, row: Row) -> bool {
     came(alloc, hoard, 0, row) == Came::Done
+        && hoard.is_short()
         && came_and_left(alloc, hoard, MANY, row) == (Came::Done, true)
 }

@@ -1,8 +1,8 @@
 //! Epochs of a shared cluster on one thread, where memory is short at a time.
 ghost use Rattle.std.specs.Prelude.{◌≡◌, ◌≤◌};
 
-use crate::refusals::acts::{Act, make_act};
-use crate::refusals::shortage::Shortage;
+use crate::acts::{Act, make_act};
+use crate::shortage::Shortage;
 use cap_base::RESOURCES;
 use cap_commit::Cluster;
 use cap_model::Request;
