@@ -1,5 +1,7 @@
 -- All that is true of a table of nodes, as a container is placed, and as a reservation is made and dropped.
-use Rattle.cap_nodes.proofs.Prelude.{◌≡◌, ℕ, List, [], ◌∷◌, ◌++◌, length, map, refl, sym, ap, ◌∙◌, subst, Option, Some, None, filter, ◌==◌, IfSome, Fits, IsWithin, amount_max, less, plus, IsRising, ClusterNode, Container, NodeTable, sum_of_totals, Load, AreTied, HaveReservations, change_load, held_more, load_at, reservation_of, reserved_load, unreserved_load, IsLoadIn}
+use Rattle.cap_nodes.proofs.Prelude.{◌≡◌, ℕ, List, [], ◌∷◌, ◌++◌, length, map, refl, sym, ap, ◌∙◌, subst, Option, Some, None, filter, ◌==◌, IfSome, Fits, IsWithin, amount_max, less, plus, IsRising, ClusterNode, Container, NodeTable, sum_of_totals, Load, AreTied, HaveReservations, change_load, held_more, load_at, reservation_of, reserved_load, unreserved_load, IsLoadIn, arith, nat_tests, found, option_map}
+use Rattle.cap_model.specs.Flat.{node_in}
+use Rattle.cap_model.specs.Uses.{held_on}
 use Rattle.cap_nodes.proofs.Changes.{nodes_of, rising_changed, same_nodes, tie_of, with_one, with_same}
 use Rattle.cap_nodes.proofs.Dropping.{is_elsewhere}
 use Rattle.cap_nodes.proofs.Reserving.{Has, have_changed, have_fewer, have_more}
@@ -54,3 +56,11 @@ module _ (K : ℕ) (loads : List Load) (live reserved : List Container) (next : 
       by (Some p) e =
           let tie = (tie_of K loads live h.0 n p e).0 in
           record { held = tie.held; fits = tie.fits; reservation = (is_found (Has (map reservation_of reserved)) (λ (q : Load). q.node.number == n) loads p e h.4).0 }
+
+-- what is left of a node that a number finds
+pub left_in : (K n : ℕ) (table : NodeTable) (p : Load) (free : List ℕ) → Some p.node ≡ node_in table n → IsLoadIn K table p → free ≡ less p.node.total p.held →
+    Some free ≡ option_map (λ (node : ClusterNode). less node.total (held_on K table n)) (node_in table n)
+left_in K n table p free there is left =
+    let test = (found (λ (x : ClusterNode). x.number == n) table.present p.node (sym there)).1 in
+    let own : p.node.number ≡ n = grind (arith, nat_tests, test) in
+    ap (λ (v : List ℕ). Some v) (left ∙ ap (less p.node.total) (is.held ∙ ap (held_on K table) own)) ∙ ap (option_map (λ (node : ClusterNode). less node.total (held_on K table n))) there

@@ -2,7 +2,7 @@
 ghost use Rattle.std.specs.Prelude.{◌≡◌, ◌+◌, ◌<◌, ◌≤◌, ◌==◌, ◌&&◌, nat_lt, [], ◌∷◌, IsSome, Some, IfOk, IfSome, OnOk, OnErr, bytes_eq, length, map, find, filter, not, true, false, is_none, option_and_then, option_map};
 ghost use Rattle.std.specs.List.{All, list_any, slice_get};
 ghost use Rattle.std.specs.Option.{option_copied};
-ghost use Rattle.cap_vector.specs.Vector.{Fits, IsWithin, amount_max, plus};
+ghost use Rattle.cap_vector.specs.Vector.{Fits, IsWithin, amount_max, less, plus};
 ghost use Rattle.cap_base.specs.Limits.{live_max, nodes_max, number_end};
 ghost use Rattle.cap_base.specs.Amounts.{fits};
 ghost use Rattle.cap_model.specs.Bounds.{AreApart};
@@ -101,6 +101,17 @@ impl<const K: usize> Nodes<K> {
         ensures load { IfSome (option_copied result) (IsLoadIn K self.now) }
     {
         self.present.get(number)
+    }
+
+    /// What the node of this number has left, in MiB, vcores and GPUs: its total without what is live on it. None where none is present.
+    pub fn free_of(&self, number: u64) -> Option<Resource<K>>
+        ensures { result ≡ option_map (λ node. less node.total (held_on K self.now number))
+            (node_in self.now number) }
+    {
+        match self.load(number) {
+            Some(load) => Some(load.free()),
+            None => None,
+        }
     }
 
     /// The node at an index, in order of number, with what it has left and the reservation that it holds.

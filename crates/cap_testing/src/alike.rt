@@ -6,7 +6,7 @@ use cap_base::RESOURCES;
 use cap_commit::Cluster;
 use cap_messages::{dispatch, read_request};
 use cap_model::{Refusal, Reply, ReplyView, ReplyWith, Request, Reservation};
-use cap_nodes::Load;
+use cap_nodes::Node;
 use std::alloc::Global;
 
 /// Whether two replies are the same.
@@ -124,9 +124,13 @@ fn have_same_nodes(a: &Cluster<RESOURCES>, b: &Cluster<RESOURCES>) -> bool {
         return false;
     }
     for number in 1..a.next_node() {
-        let same = match (a.load(number), b.load(number)) {
+        let same = match (a.node(number), b.node(number)) {
             (None, None) => true,
-            (Some(a), Some(b)) => is_same_load(a, b),
+            (Some(node), Some(other)) => {
+                is_same_node(node, other)
+                    && a.free_of(number) == b.free_of(number)
+                    && is_same_reservation(a.reservation_on(number), b.reservation_on(number))
+            }
             _ => false,
         };
         if !same {
@@ -136,16 +140,13 @@ fn have_same_nodes(a: &Cluster<RESOURCES>, b: &Cluster<RESOURCES>) -> bool {
     true
 }
 
-fn is_same_load(a: &Load<RESOURCES>, b: &Load<RESOURCES>) -> bool {
-    let (node, other) = (a.node(), b.node());
-    let last = node.response().saturating_sub(1);
-    node.host() == other.host()
-        && node.rack() == other.rack()
-        && node.total() == other.total()
-        && node.response() == other.response()
-        && node.repeated(last) == other.repeated(last)
-        && a.free() == b.free()
-        && is_same_reservation(a.reservation(), b.reservation())
+fn is_same_node(a: &Node<RESOURCES>, b: &Node<RESOURCES>) -> bool {
+    let last = a.response().saturating_sub(1);
+    a.host() == b.host()
+        && a.rack() == b.rack()
+        && a.total() == b.total()
+        && a.response() == b.response()
+        && a.repeated(last) == b.repeated(last)
 }
 
 fn is_same_reservation(
