@@ -11,6 +11,7 @@ use Rattle.cap_tree.specs.declared.found.Found.{Found}
 use Rattle.cap_tree.specs.declared.found.Found.TheVariants.{Leaf, Parent, Missing}
 use Rattle.cap_tree.specs.Spot.{Spot, first, first_of, leads_to, item_at, path_at, IsPosition}
 use Rattle.cap_tree.specs.Branch.{root_count}
+use Rattle.cap_tree.specs.Counted.{AreWaiting}
 use Rattle.cap_tree.specs.Measure.{MayChange}
 use Rattle.cap_tree.specs.Count.{Count, of_count, zero_count, one_app, use_alone}
 use Rattle.cap_tree.specs.Queue.{Queue, of_queue, user_row, moved_above, moved_at, with_running, with_settings}
@@ -132,3 +133,4 @@ FindsQueue path rows Missing = find (λ q. bytes_eq q.path path) (queues_of rows
 pub record IsQueueTree (rows : List Row) (start : SmallVec ℕ) : Type 0 where
   pub rows_are : AreRows rows
   pub start_is : IsStart start
+  pub waiting_are : AreWaiting rows

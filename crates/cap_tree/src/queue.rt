@@ -1,14 +1,16 @@
 //! One queue of the tree (`Queue`): its settings, what is used and active in it and under it, a leaf's users by hash.
-ghost use Rattle.std.specs.Prelude.{◌≡◌, ◌≤◌, None, IfOk, OnOk, OnErr, bytes_eq};
+ghost use Rattle.std.specs.Prelude.{◌≡◌, ◌<◌, ◌≤◌, None, IfOk, OnOk, OnErr, bytes_eq};
 ghost use Rattle.std.specs.Option.{option_copied};
 ghost use Rattle.indexmap.specs.IndexMap.{get};
 ghost use Rattle.cap_vector.specs.Fullness.{shares};
 ghost use Rattle.cap_base.specs.Paths.{name_of};
 ghost use Rattle.cap_tree.specs.Count.{IsPart, MayMove};
+ghost use Rattle.cap_base.specs.Members.{IsIn};
 ghost use Rattle.cap_tree.specs.Measure.{Measure};
-ghost use Rattle.cap_tree.specs.Queue.{IsUnused, HasSettingsOf, count_in, moved_above, moved_at, of_queue, of_users, queue_count, stays_in_maximum, stays_in_user_limit, use_of, user_row, with_count, with_running, with_settings};
+ghost use Rattle.cap_tree.specs.Numbers.{AreNumbers, IsNextNumber, IsPlaceOf};
+ghost use Rattle.cap_tree.specs.Queue.{IsUnused, HasSettingsOf, count_in, moved_above, moved_at, of_queue, of_users, queue_count, served_above, stays_in_maximum, stays_in_user_limit, use_of, user_row, waiting_above, waiting_less, waiting_more, with_count, with_running, with_settings};
 
-use crate::branch::{CopyIn, Served, TreeItem};
+use crate::branch::{CopyIn, Marked, Served, TreeItem};
 use crate::count::{Part, Total, moved};
 use crate::over_limit::fits_in_maximum;
 use cap_base::{NoMemory, PathText, QueueRow, ShortText};
@@ -36,6 +38,9 @@ pub struct Queue<const K: usize, A: Allocator> {
     count: Total<K>,
     shares: Shares<K>,
     users: Users<K, A>,
+    // The numbers of the applications that wait at it, in order, and how many wait at it and under it.
+    waiting: Vec<u64, A>,
+    waits: u64,
 }
 
 impl<const K: usize, A: Allocator> Model for Queue<K, A> {
@@ -56,13 +61,15 @@ impl<const K: usize, A: Allocator> Model for Queue<K, A> {
       used = q.count.used;
       active = q.count.active;
       users = from_entries q.users.entries;
+      waiting = q.waiting.items;
+      waits = q.waits;
     } };
 
     ghost invariant = { λ q. AreSharesOf q.count.used q.guaranteed q.shares };
 }
 
 impl<const K: usize, A: Allocator> TreeItem for Queue<K, A> {
-    ghost use Rattle.std.specs.Prelude.{false};
+    ghost use Rattle.std.specs.Prelude.{nat_lt};
     ghost use Rattle.cap_tree.specs.Queue.{of_queue, of_users};
     ghost use Rattle.cap_tree.specs.Service.{queue_cmp};
 
@@ -72,8 +79,7 @@ impl<const K: usize, A: Allocator> TreeItem for Queue<K, A> {
 
     ghost own = { of_users };
 
-    // What waits at queues is marked in the tree of a snapshot alone.
-    ghost waits = { λ q. false };
+    ghost waits = { λ q. nat_lt 0 q.waits };
 
     ghost order = { queue_cmp };
 
@@ -95,6 +101,9 @@ impl<const K: usize, A: Allocator, B: Allocator + Copy> CopyIn<Queue<K, B>, B> f
             Ok(users) => users,
             Err(NoMemory) => return Err(NoMemory),
         };
+        let Ok(waiting) = Vec::from_slice(alloc, &self.waiting) else {
+            return Err(NoMemory);
+        };
         Ok(Queue {
             name,
             guaranteed: self.guaranteed,
@@ -104,6 +113,8 @@ impl<const K: usize, A: Allocator, B: Allocator + Copy> CopyIn<Queue<K, B>, B> f
             count: self.count,
             shares: self.shares,
             users,
+            waiting,
+            waits: self.waits,
         })
     }
 
@@ -130,6 +141,23 @@ impl<const K: usize, A: Allocator> Served for Queue<K, A> {
     ghost names = { same_name };
 }
 
+impl<const K: usize, A: Allocator> Marked for Queue<K, A> {
+    ghost use Rattle.cap_tree.specs.Numbers.{first_number};
+
+    ghost mark = { λ q. first_number q.waiting };
+
+    fn mark(&self) -> u64 {
+        match self.waiting.first() {
+            None => 0,
+            Some(number) => *number,
+        }
+    }
+
+    fn waits(&self) -> bool {
+        self.waits > 0
+    }
+}
+
 impl<const K: usize, A: Allocator + Copy> Queue<K, A> {
     /// The queue of a row of the settings, with nothing in it.
     pub(crate) fn new(alloc: A, path: &PathText, row: &QueueRow<K>) -> Result<Queue<K, A>, NoMemory>
@@ -150,6 +178,8 @@ impl<const K: usize, A: Allocator + Copy> Queue<K, A> {
             count,
             shares: Shares::of(&count.used, &guaranteed),
             users: IndexMap::new(alloc),
+            waiting: Vec::new(alloc),
+            waits: 0,
         })
     }
 }
@@ -306,6 +336,61 @@ impl<const K: usize, A: Allocator> Queue<K, A> {
         Ok(())
     }
 
+    /// One more waits at a queue under it.
+    pub(crate) fn wait_above(&mut self)
+        requires { self.old.waits < 18446744073709551615 }
+        ensures { self.new ≡ waiting_above self.old }
+    {
+        self.waits += 1;
+    }
+
+    /// An application waits at it. `NoMemory` changes nothing.
+    pub(crate) fn wait_at(&mut self, number: u64) -> Result<(), NoMemory>
+        requires few { self.old.waits < 18446744073709551615 }
+        requires numbers { AreNumbers self.old.waiting }
+        requires other { ¬ IsIn number self.old.waiting }
+        ensures ok { OnOk result (self.new ≡ waiting_more number self.old) }
+        ensures err { OnErr result (self.new ≡ self.old) }
+    {
+        let place = place_of(&self.waiting, number);
+        match self.waiting.insert(place, number) {
+            Ok(()) => {}
+            Err(_) => return Err(NoMemory),
+        }
+        self.waits += 1;
+        Ok(())
+    }
+
+    /// One that waited at a queue under it does so no more.
+    pub(crate) fn serve_above(&mut self)
+        requires { 1 ≤ self.old.waits }
+        ensures { self.new ≡ served_above self.old }
+    {
+        self.waits -= 1;
+    }
+
+    /// An application that waited at it does so no more.
+    pub(crate) fn serve_at(&mut self, number: u64)
+        requires some { 1 ≤ self.old.waits }
+        requires numbers { AreNumbers self.old.waiting }
+        requires there { IsIn number self.old.waiting }
+        ensures { self.new ≡ waiting_less number self.old }
+    {
+        let place = place_of(&self.waiting, number);
+        self.waiting.remove(place - 1);
+        self.waits -= 1;
+    }
+
+    /// The number that waits at it next after that one.
+    pub(crate) fn waiting_after(&self, number: u64) -> Option<u64>
+        requires { AreNumbers self.now.waiting }
+        ensures { IsNextNumber number self.now.waiting result }
+    {
+        let waiting = self.waiting.as_slice();
+        let place = place_of(waiting, number);
+        waiting.get(place).copied()
+    }
+
     /// Sets its settings to those of a row. What is counted of it stays.
     pub(crate) fn set_settings(&mut self, row: &QueueRow<K>)
         ensures { self.new ≡ with_settings row.now self.old }
@@ -374,6 +459,24 @@ fn hashed_row<'a, const K: usize, A: Allocator>(
     ensures { option_copied result ≡ get bytes_eq users.now user.now }
 {
     users.get(user)
+}
+
+/// How many numbers in order are not greater than that one, by a binary search.
+fn place_of(numbers: &[u64], number: u64) -> usize
+    requires { AreNumbers numbers.now }
+    ensures { IsPlaceOf number numbers.now result }
+{
+    let mut low = 0;
+    let mut high = numbers.len();
+    while low < high {
+        let middle = low + (high - low) / 2;
+        if number < numbers[middle] {
+            high = middle;
+        } else {
+            low = middle + 1;
+        }
+    }
+    low
 }
 
 /// The last name of a dotted path.
