@@ -5,10 +5,10 @@ use Rattle.cap_tree.proofs.RowPaths.{at_position}
 use Rattle.cap_tree.specs.Counted.{AreWaiting}
 use Rattle.cap_tree.specs.Numbers.{AreNumbers}
 use Rattle.cap_tree.specs.NumberLaws.{numbers_with, numbers_without, length-with_number, length-without_number}
-use Rattle.cap_tree.specs.Queue.{served_above, waiting_above, waiting_less, waiting_more}
+use Rattle.cap_tree.specs.Queue.{IsFree, active_of, served_above, waiting_above, waiting_less, waiting_more}
 use Rattle.cap_tree.specs.QueueLaws.{same_number}
 use Rattle.cap_tree.specs.Measure.{Measure, MayChange, one_waiting}
-use Rattle.cap_tree.specs.Waiting.{waiting_at, waits_in}
+use Rattle.cap_tree.specs.Waiting.{HasRoomAt, waiting_at, waits_in}
 
 -- a change that leaves what waits
 pub waiting_kept : (above at : Queue → Queue) → ((q : Queue) → (above q).name ≡ q.name) → ((q : Queue) → (at q).name ≡ q.name) → ((q : Queue) → (above q).waiting ≡ q.waiting) → ((q : Queue) → (at q).waiting ≡ q.waiting) →
@@ -66,12 +66,19 @@ none_waiting K rows tree unused = (none_counted (λ q. q.name) (λ q. AreNumbers
 
 -- what a change of what waits needs at its position
 
-pub waits_there : (n : ℕ) (position : List ℕ) (rows : List Row) → AreWaiting rows → IsPosition rows position → ¬ IsIn n (waiting_at position rows) → HoldsOfItem (λ (q : Queue). AreNumbers q.waiting × ¬ IsIn n q.waiting) (item_at position rows)
-waits_there n position rows w there other = by (item_at position rows) (good_at (λ q. q.name) (λ q. AreNumbers q.waiting) (λ q. q.waits) (λ q. length q.waiting) w position there) other
+pub room_there : (position : List ℕ) (rows : List Row) → HasRoomAt position rows → IsPosition rows position
+room_there position rows h = by (item_at position rows) h
   where
-    by : (o : Option Queue) → HoldsOfItem (λ (q : Queue). AreNumbers q.waiting) o → ¬ IsIn n (option_map_or (λ (q : Queue). q.waiting) o []) → HoldsOfItem (λ (q : Queue). AreNumbers q.waiting × ¬ IsIn n q.waiting) o
-    by None h out = h
-    by (Some q) h out = (h, out)
+    by : (o : Option Queue) → HoldsOfItem (λ (q : Queue). length q.waiting < active_of q.users) o → HoldsOfItem (λ (_ : Queue). Unit {0}) o
+    by None h = h
+    by (Some q) h = tt
+
+pub waits_there : (n : ℕ) (position : List ℕ) (rows : List Row) → AreWaiting rows → HasRoomAt position rows → ¬ IsIn n (waiting_at position rows) → HoldsOfItem (IsFree n) (item_at position rows)
+waits_there n position rows w room other = by (item_at position rows) (good_at (λ q. q.name) (λ q. AreNumbers q.waiting) (λ q. q.waits) (λ q. length q.waiting) w position (room_there position rows room)) room other
+  where
+    by : (o : Option Queue) → HoldsOfItem (λ (q : Queue). AreNumbers q.waiting) o → HoldsOfItem (λ (q : Queue). length q.waiting < active_of q.users) o → ¬ IsIn n (option_map_or (λ (q : Queue). q.waiting) o []) → HoldsOfItem (IsFree n) o
+    by None h room out = h
+    by (Some q) h room out = record { numbers = h; other = out; room = room }
 
 pub member_there : (n : ℕ) (position : List ℕ) (rows : List Row) → IsIn n (waiting_at position rows) → IsPosition rows position
 member_there n position rows m = by (item_at position rows) m

@@ -1,5 +1,5 @@
 -- What a queue holds, and its changes.
-use Rattle.std.specs.Prelude.{◌≡◌, ℕ, ◌+◌, ◌-◌, ◌≤◌, [], Bool, if◌then◌else◌, List, length, Option, Some, None, sum_by, refl}
+use Rattle.std.specs.Prelude.{◌≡◌, ℕ, ◌+◌, ◌-◌, ◌<◌, ◌≤◌, ◌⊎◌, [], Bool, if◌then◌else◌, List, length, Option, Some, None, sum_by, refl}
 use Rattle.std.specs.Option.{option_map_or}
 use Rattle.std.specs.Ordering.{nat_cmp}
 use Rattle.std.specs.Cmp.Lexicographic.{slice_cmp}
@@ -12,7 +12,8 @@ use Rattle.cap_base.specs.LimitTests.{fits_maximum, fits_user_limit}
 use Rattle.cap_base.specs.Settings.{QueueRow}
 use Rattle.cap_base.specs.Paths.{name_of}
 use Rattle.cap_tree.specs.Measure.{Measure}
-use Rattle.cap_tree.specs.Numbers.{with_number, without_number}
+use Rattle.cap_base.specs.Members.{IsIn}
+use Rattle.cap_tree.specs.Numbers.{AreNumbers, with_number, without_number}
 use Rattle.cap_tree.specs.Count.{Count, of_count, zero_count, is_zero_count, count_moved}
 
 -- what is counted of each user of a leaf, by the user's name. Two of these are equal where they count the same of each user: they
@@ -44,6 +45,15 @@ pub record Queue : Type 0 where
 -- what is kept beside a use and a guarantee are the shares of the one in the other
 abbrev pub AreSharesOf : List ℕ → List ℕ → List Share → Type 0
 AreSharesOf used guaranteed kept = kept ≡ shares used guaranteed
+
+-- how many applications of these users are active
+abbrev pub active_of : Users → ℕ
+active_of users = sum_by (λ e. e.1.active) (finite.entries users)
+
+-- what a queue keeps beside what contracts see: the shares of its use, and room for the numbers of all its own applications
+pub record IsKept (used guaranteed : List ℕ) (kept : List Share) (users : Users) (room : ℕ) : Type 0 where
+  pub shares_are : AreSharesOf used guaranteed kept
+  pub has_room : active_of users ≤ room
 
 -- what is counted of a queue
 abbrev pub queue_count : Queue → Count
@@ -88,6 +98,12 @@ moved_at K user old new q =
 abbrev pub waiting_above : Queue → Queue
 waiting_above q = record q { waits = q.waits + 1 }
 
+-- a number is free to wait at it: the numbers that do are others, and fewer than its own applications
+pub record IsFree (n : ℕ) (q : Queue) : Type 0 where
+  pub numbers : AreNumbers q.waiting
+  pub other : ¬ IsIn n q.waiting
+  pub room : length q.waiting < active_of q.users
+
 abbrev pub waiting_more : ℕ → Queue → Queue
 waiting_more n q = record q { waiting = with_number n q.waiting; waits = q.waits + 1 }
 
@@ -96,6 +112,10 @@ served_above q = record q { waits = q.waits - 1 }
 
 abbrev pub waiting_less : ℕ → Queue → Queue
 waiting_less n q = record q { waiting = without_number n q.waiting; waits = q.waits - 1 }
+
+-- a move may want memory where the user has no row, or more applications are active
+abbrev pub MayGrow : List ℕ → Count → Count → Queue → Type 0
+MayGrow user old new q = (user_row user q.users ≡ None) ⊎ (old.active < new.active)
 
 abbrev pub with_running : Bool → Queue → Queue
 with_running running q = record q { running = running }

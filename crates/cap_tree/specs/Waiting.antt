@@ -1,5 +1,5 @@
 -- What waits at the queues of a tree, applications by number, and which is served next.
-use Rattle.std.specs.Prelude.{◌≡◌, ℕ, false, List, [], Option, Some, None}
+use Rattle.std.specs.Prelude.{◌≡◌, ℕ, ◌<◌, false, length, List, [], Option, Some, None}
 use Rattle.std.specs.Option.{option_map_or}
 use Rattle.std.specs.Ordering.{nat_cmp, ordering_then, is_gt}
 use Rattle.std.specs.declared.cmp.Ordering.{Ordering}
@@ -9,11 +9,16 @@ use Rattle.cap_base.specs.Levels.{level_cmp}
 use Rattle.cap_base.specs.Members.{IsIn}
 use Rattle.cap_tree.specs.Rows.{Row}
 use Rattle.cap_tree.specs.Service.{levels_at}
-use Rattle.cap_tree.specs.Spot.{first_of, item_at}
+use Rattle.cap_tree.specs.Queue.{active_of}
+use Rattle.cap_tree.specs.Spot.{HoldsOfItem, first_of, item_at}
 
 -- the numbers that wait at a position
 abbrev pub waiting_at : List ℕ → List Row → List ℕ
 waiting_at position rows = option_map_or (λ q. q.waiting) (item_at position rows) []
+
+-- fewer wait at a position than applications are active there, of the queue's own
+abbrev pub HasRoomAt : List ℕ → List Row → Type 0
+HasRoomAt position rows = HoldsOfItem (λ q. length q.waiting < active_of q.users) (item_at position rows)
 
 -- how many wait in all
 abbrev pub waits_in : List Row → ℕ

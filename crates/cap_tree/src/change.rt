@@ -16,9 +16,9 @@ pub(crate) struct Move<'a, const K: usize> {
 }
 
 impl<'a, const K: usize, A: Allocator> Change<Queue<K, A>> for Move<'a, K> {
-    ghost use Rattle.std.specs.Prelude.{◌≡◌, None, refl};
+    ghost use Rattle.std.specs.Prelude.{refl};
     ghost use Rattle.cap_tree.specs.Count.{IsPart, of_count};
-    ghost use Rattle.cap_tree.specs.Queue.{count_in, moved_above, moved_at, queue_count, user_row};
+    ghost use Rattle.cap_tree.specs.Queue.{MayGrow, count_in, moved_above, moved_at, queue_count, user_row};
     ghost use Rattle.cap_tree.specs.QueueLaws.{moved_above_own, moved_at_queue, moved_own, moved_queue, own_fits};
 
     ghost old = { λ c. of_count c.old };
@@ -31,7 +31,7 @@ impl<'a, const K: usize, A: Allocator> Change<Queue<K, A>> for Move<'a, K> {
 
     ghost can = { λ c q. IsPart c.old (count_in K (user_row c.user.now q.users)) };
 
-    ghost grows = { λ c q. user_row c.user.now q.users ≡ None };
+    ghost grows = { λ c. MayGrow c.user.now c.old c.new };
 
     fn change_above(&self, item: &mut Queue<K, A>) {
         item.move_below(&self.old, &self.new);
@@ -154,10 +154,8 @@ pub(crate) struct Wait {
 
 impl<const K: usize, A: Allocator> Change<Queue<K, A>> for Wait {
     ghost use Rattle.std.specs.Prelude.{refl};
-    ghost use Rattle.cap_base.specs.Members.{IsIn};
     ghost use Rattle.cap_tree.specs.Measure.{one_waiting};
-    ghost use Rattle.cap_tree.specs.Numbers.{AreNumbers};
-    ghost use Rattle.cap_tree.specs.Queue.{of_users, waiting_above, waiting_more};
+    ghost use Rattle.cap_tree.specs.Queue.{IsFree, of_users, waiting_above, waiting_more};
     ghost use Rattle.cap_tree.specs.QueueLaws.{none_fits, own_more, waits_above_own, waits_at, waits_more};
 
     ghost old = { λ c m. 0 };
@@ -168,16 +166,17 @@ impl<const K: usize, A: Allocator> Change<Queue<K, A>> for Wait {
 
     ghost at = { λ c. waiting_more c.number };
 
-    ghost can = { λ c q. AreNumbers q.waiting × ¬ IsIn c.number q.waiting };
+    ghost can = { λ c q. IsFree c.number q };
 
-    ghost grows = { λ c q. Unit {0} };
+    ghost grows = { λ c q. ⊥ };
 
     fn change_above(&self, item: &mut Queue<K, A>) {
         item.wait_above();
     }
 
     fn change_at(&self, item: &mut Queue<K, A>) -> Result<(), NoMemory> {
-        item.wait_at(self.number)
+        item.wait_at(self.number);
+        Ok(())
     }
 
     ghost name_above = { λ c x. refl };

@@ -1,5 +1,6 @@
 //! One queue of the tree (`Queue`): its settings, what is used and active in it and under it, a leaf's users by hash.
-ghost use Rattle.std.specs.Prelude.{◌≡◌, ◌<◌, ◌≤◌, None, IfOk, OnOk, OnErr, bytes_eq};
+ghost use Rattle.std.specs.Prelude.{◌≡◌, ◌<◌, ◌≤◌, ◌⊎◌, None, IfOk, OnOk, OnErr, bytes_eq, length, vec_capacity};
+ghost use Rattle.std.specs.FinMap.{from_entries};
 ghost use Rattle.std.specs.Option.{option_copied};
 ghost use Rattle.indexmap.specs.IndexMap.{get};
 ghost use Rattle.cap_vector.specs.Fullness.{shares};
@@ -8,7 +9,7 @@ ghost use Rattle.cap_tree.specs.Count.{IsPart, MayMove};
 ghost use Rattle.cap_base.specs.Members.{IsIn};
 ghost use Rattle.cap_tree.specs.Measure.{Measure};
 ghost use Rattle.cap_tree.specs.Numbers.{AreNumbers, IsNextNumber, IsPlaceOf};
-ghost use Rattle.cap_tree.specs.Queue.{IsUnused, HasSettingsOf, count_in, moved_above, moved_at, of_queue, of_users, queue_count, served_above, stays_in_maximum, stays_in_user_limit, use_of, user_row, waiting_above, waiting_less, waiting_more, with_count, with_running, with_settings};
+ghost use Rattle.cap_tree.specs.Queue.{IsUnused, HasSettingsOf, MayGrow, active_of, count_in, moved_above, moved_at, of_queue, of_users, queue_count, served_above, stays_in_maximum, stays_in_user_limit, use_of, user_row, waiting_above, waiting_less, waiting_more, with_count, with_running, with_settings};
 
 use crate::branch::{CopyIn, Marked, Served, TreeItem};
 use crate::count::{Part, Total, moved};
@@ -38,7 +39,8 @@ pub struct Queue<const K: usize, A: Allocator> {
     count: Total<K>,
     shares: Shares<K>,
     users: Users<K, A>,
-    // The numbers of the applications that wait at it, in order, and how many wait at it and under it.
+    // The numbers of the applications that wait at it, in order, with room for all that are active there; and how many wait at it
+    // and under it.
     waiting: Vec<u64, A>,
     waits: u64,
 }
@@ -46,7 +48,8 @@ pub struct Queue<const K: usize, A: Allocator> {
 impl<const K: usize, A: Allocator> Model for Queue<K, A> {
     ghost use Rattle.std.specs.Coded.{codes};
     ghost use Rattle.std.specs.FinMap.{from_entries};
-    ghost use Rattle.cap_tree.specs.Queue.{AreSharesOf, Queue as Row, users_code};
+    ghost use Rattle.std.specs.Prelude.{vec_capacity};
+    ghost use Rattle.cap_tree.specs.Queue.{IsKept, Queue as Row, users_code};
 
     ghost Value = { Row };
 
@@ -65,7 +68,8 @@ impl<const K: usize, A: Allocator> Model for Queue<K, A> {
       waits = q.waits;
     } };
 
-    ghost invariant = { λ q. AreSharesOf q.count.used q.guaranteed q.shares };
+    ghost invariant = { λ q. IsKept q.count.used q.guaranteed q.shares
+        (from_entries q.users.entries) (vec_capacity q.waiting) };
 }
 
 impl<const K: usize, A: Allocator> TreeItem for Queue<K, A> {
@@ -101,8 +105,9 @@ impl<const K: usize, A: Allocator, B: Allocator + Copy> CopyIn<Queue<K, B>, B> f
             Ok(users) => users,
             Err(NoMemory) => return Err(NoMemory),
         };
-        let Ok(waiting) = Vec::from_slice(alloc, &self.waiting) else {
-            return Err(NoMemory);
+        let waiting = match copy_numbers(alloc, &self.waiting) {
+            Ok(waiting) => waiting,
+            Err(NoMemory) => return Err(NoMemory),
         };
         Ok(Queue {
             name,
@@ -282,38 +287,19 @@ impl<const K: usize, A: Allocator> Queue<K, A> {
         fits_exchanged(&used, old, new, self.factor, &self.guaranteed)
     }
 
-    /// Sets what is counted of a user: where that is nothing, the user has no row any more. `NoMemory` changes nothing, and comes
-    /// only where the user has no row.
-    fn set_user(&mut self, user: &ShortText, count: Total<K>) -> Result<(), NoMemory>
-        ensures ok { OnOk result
-            (self.new ≡
-            record self.old { users = with_count user.now count.entry self.old.users }) }
-        ensures err { OnErr result (self.new ≡ self.old) }
-        ensures absent { OnErr result (user_row user.now self.old.users ≡ None) }
-    {
-        if count.is_zero() {
-            self.users.swap_remove(user);
-            return Ok(());
-        }
-        match self.users.insert(*user, count) {
-            Ok(_) => {}
-            Err(_) => return Err(NoMemory),
-        }
-        Ok(())
-    }
-
     /// Takes an old part away from what is counted in it and under it, and adds a new one.
     pub(crate) fn move_below(&mut self, old: &Part<K>, new: &Part<K>)
         requires fits { IsPart old.now (queue_count self.old) }
         requires within { MayMove old.now new.now (queue_count self.old) }
         ensures { self.new ≡ moved_above old.now new.now self.old }
     {
-        self.count = moved(&self.count, old, new);
-        self.shares = Shares::of(&self.count.used, &self.guaranteed);
+        let count = moved(&self.count, old, new);
+        self.shares = Shares::of(&count.used, &self.guaranteed);
+        self.count = count;
     }
 
     /// Takes an old part away from what is counted of a user and of the queue, and adds a new one. `NoMemory` changes nothing, and
-    /// comes only where the user has no row.
+    /// comes only where the user has no row, or more applications are active.
     pub(crate) fn move_user(
         &mut self,
         user: &ShortText,
@@ -325,14 +311,20 @@ impl<const K: usize, A: Allocator> Queue<K, A> {
         requires sums { (m : Measure) → of_users self.old m ≤ of_queue self.old m }
         ensures ok { OnOk result (self.new ≡ moved_at K user.now old.now new.now self.old) }
         ensures err { OnErr result (self.new ≡ self.old) }
-        ensures absent { OnErr result (user_row user.now self.old.users ≡ None) }
+        ensures grows { OnErr result (MayGrow user.now old.now new.now self.old) }
     {
-        let count = moved(&self.user(user), old, new);
-        match self.set_user(user, count) {
+        let own = moved(&self.user(user), old, new);
+        let count = moved(&self.count, old, new);
+        match make_room(&mut self.waiting, old.active, new.active, count.active) {
             Ok(()) => {}
             Err(NoMemory) => return Err(NoMemory),
         }
-        self.move_below(old, new);
+        match set_user(&mut self.users, user, own) {
+            Ok(()) => {}
+            Err(NoMemory) => return Err(NoMemory),
+        }
+        self.shares = Shares::of(&count.used, &self.guaranteed);
+        self.count = count;
         Ok(())
     }
 
@@ -344,21 +336,19 @@ impl<const K: usize, A: Allocator> Queue<K, A> {
         self.waits += 1;
     }
 
-    /// An application waits at it. `NoMemory` changes nothing.
-    pub(crate) fn wait_at(&mut self, number: u64) -> Result<(), NoMemory>
+    /// An application of its own waits at it. It takes no memory.
+    pub(crate) fn wait_at(&mut self, number: u64)
         requires few { self.old.waits < 18446744073709551615 }
         requires numbers { AreNumbers self.old.waiting }
         requires other { ¬ IsIn number self.old.waiting }
-        ensures ok { OnOk result (self.new ≡ waiting_more number self.old) }
-        ensures err { OnErr result (self.new ≡ self.old) }
+        requires room { length self.old.waiting < active_of self.old.users }
+        ensures { self.new ≡ waiting_more number self.old }
     {
         let place = place_of(&self.waiting, number);
-        match self.waiting.insert(place, number) {
-            Ok(()) => {}
-            Err(_) => return Err(NoMemory),
-        }
+        let Ok(()) = self.waiting.insert(place, number) else {
+            unreachable!()
+        };
         self.waits += 1;
-        Ok(())
     }
 
     /// One that waited at a queue under it does so no more.
@@ -409,6 +399,69 @@ impl<const K: usize, A: Allocator> Queue<K, A> {
     {
         self.running = running;
     }
+}
+
+/// Sets what is counted of a user: where that is nothing, the user has no row any more. `NoMemory` changes nothing, and comes only
+/// where the user has no row.
+fn set_user<const K: usize, A: Allocator>(
+    users: &mut Users<K, A>,
+    user: &ShortText,
+    count: Total<K>,
+) -> Result<(), NoMemory>
+    ensures ok { OnOk result (from_entries users.new.entries
+        ≡ with_count user.now count.entry (from_entries users.old.entries)) }
+    ensures err { OnErr result (users.new.entries ≡ users.old.entries) }
+    ensures absent { OnErr result (user_row user.now (from_entries users.old.entries) ≡ None) }
+{
+    if count.is_zero() {
+        users.swap_remove(user);
+        return Ok(());
+    }
+    match users.insert(*user, count) {
+        Ok(_) => {}
+        Err(_) => return Err(NoMemory),
+    }
+    Ok(())
+}
+
+/// Room for so many numbers in all, where more come than go. `NoMemory` changes nothing, and comes only there.
+fn make_room<A: Allocator>(
+    numbers: &mut Vec<u64, A>,
+    go: u64,
+    come: u64,
+    count: u64,
+) -> Result<(), NoMemory>
+    ensures items { numbers.new.items ≡ numbers.old.items }
+    ensures room { vec_capacity numbers.old ≤ vec_capacity numbers.new }
+    ensures ok { OnOk result ((come ≤ go) ⊎ (count ≤ vec_capacity numbers.new)) }
+    ensures err { OnErr result (go < come) }
+{
+    if come <= go {
+        return Ok(());
+    }
+    let more = (count as usize).saturating_sub(numbers.len());
+    match numbers.reserve(more) {
+        Ok(()) => {}
+        Err(_) => return Err(NoMemory),
+    }
+    Ok(())
+}
+
+/// The same numbers under another allocator, with as much room. The error means that an allocation failed.
+fn copy_numbers<A: Allocator, B: Allocator + Copy>(
+    alloc: B,
+    numbers: &Vec<u64, A>,
+) -> Result<Vec<u64, B>, NoMemory>
+    ensures items { IfOk result (λ copy. copy.items ≡ numbers.now.items) }
+    ensures room { IfOk result (λ copy. vec_capacity numbers.now ≤ vec_capacity copy) }
+{
+    let Ok(mut copy) = Vec::with_capacity(alloc, numbers.capacity()) else {
+        return Err(NoMemory);
+    };
+    let Ok(()) = copy.extend_from_slice(numbers) else {
+        return Err(NoMemory);
+    };
+    Ok(copy)
 }
 
 /// The same users under another allocator, with room for all at once. The error means that an allocation failed.

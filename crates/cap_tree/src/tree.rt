@@ -1,5 +1,5 @@
 //! The tree of queues, seen as the list of its rows (`QueueTree`): its reads, and its changes at a queue.
-ghost use Rattle.std.specs.Prelude.{◌≡◌, ◌<◌, ◌≤◌, ◌+◌, ◌==◌, length, ◌++◌, ◌∷◌, [], map, None, Some, true, IfErr, IfOk, IfSome, MatchOption, OnOk, OnErr};
+ghost use Rattle.std.specs.Prelude.{◌≡◌, ◌<◌, ◌≤◌, ◌+◌, ◌==◌, length, ◌++◌, ◌∷◌, [], map, None, Some, true, IfErr, IfOk, IfSome, MatchOption, OnOk, OnErr, ◌⊎◌};
 ghost use Rattle.std.specs.List.{All};
 ghost use Rattle.cap_vector.specs.Vector.{IsWithin, amounts_exchanged, sum_max};
 ghost use Rattle.cap_base.specs.Limits.{factor_max, number_end, queues_max};
@@ -10,11 +10,11 @@ ghost use Rattle.cap_tree.specs.Growth.{IsGrowing};
 ghost use Rattle.cap_tree.specs.Limits.{over_limit};
 ghost use Rattle.cap_tree.specs.Paths.{TreeFitsInMemory};
 ghost use Rattle.cap_tree.specs.Count.{IsPart};
-ghost use Rattle.cap_tree.specs.Queue.{IsUnused, MayGive, MayLeave, count_in, served_above, stays_in_user_limit, use_of, waiting_above, waiting_less, waiting_more};
-ghost use Rattle.cap_tree.specs.Rows.{AreRows, FindsQueue, HasRoomAtRoot, active_in, applied_row, entered_row, is_running, left_row, lowered_row, moved_rows, queues_of, root_use, used_at, user_row_at, with_row, with_row_of_path, with_state};
+ghost use Rattle.cap_tree.specs.Queue.{IsUnused, MayGive, MayLeave, count_in, stays_in_user_limit, use_of};
+ghost use Rattle.cap_tree.specs.Rows.{AreRows, FindsQueue, HasRoomAtRoot, active_in, applied_row, entered_row, is_running, left_row, lowered_row, moved_rows, queues_of, root_use, served_row, used_at, user_row_at, waiting_row, with_row, with_row_of_path, with_state};
 ghost use Rattle.cap_tree.specs.Service.{HasNoChildAfter, IsNextChild};
-ghost use Rattle.cap_tree.specs.Spot.{IsPosition, change_along, item_at, path_at};
-ghost use Rattle.cap_tree.specs.Waiting.{HasNoWaiter, IsNextWaiter, waiting_at, waits_in};
+ghost use Rattle.cap_tree.specs.Spot.{IsPosition, item_at, path_at};
+ghost use Rattle.cap_tree.specs.Waiting.{HasNoWaiter, HasRoomAt, IsNextWaiter, waiting_at, waits_in};
 ghost use Rattle.cap_base.specs.Members.{IsIn};
 
 use crate::branch::{Branch, Marked};
@@ -190,7 +190,7 @@ impl<const K: usize, A: Allocator + Copy> QueueTree<K, A> {
     }
 
     /// Takes an old part away from what is counted of a user in the leaf, of the leaf and of each queue above it, and adds a new
-    /// one. `NoMemory` changes nothing, and comes only where the user has no row.
+    /// one. `NoMemory` changes nothing, and comes only where the user has no row, or more applications are active.
     fn change(&mut self, path: &Path<A>, change: &Move<'_, K>) -> Result<(), NoMemory>
         requires position { IsPosition self.old path.now.items }
         requires fits { IsPart change.now.old
@@ -199,8 +199,9 @@ impl<const K: usize, A: Allocator + Copy> QueueTree<K, A> {
         ensures ok { OnOk result (self.new ≡ moved_rows K path.now.items
             change.now.user.now change.now.old change.now.new self.old) }
         ensures err { OnErr result (self.new ≡ self.old) }
-        ensures absent { OnErr result
-            (user_row_at path.now.items change.now.user.now self.old ≡ None) }
+        ensures grows { OnErr result
+            ((user_row_at path.now.items change.now.user.now self.old ≡ None)
+            ⊎ (change.now.old.active < change.now.new.active)) }
     {
         match self.root.change(path.as_slice(), change) {
             Ok(()) => {}
@@ -209,15 +210,14 @@ impl<const K: usize, A: Allocator + Copy> QueueTree<K, A> {
         Ok(())
     }
 
-    /// One more application of the user becomes active in the leaf: it counts there, at each queue above, and for the user.
-    /// `NoMemory` changes nothing, and comes only where the user has no application there yet.
+    /// One more application of the user becomes active in the leaf: it counts there, at each queue above, and for the user, and there is
+    /// room for it among those that wait. `NoMemory` changes nothing.
     pub fn enter(&mut self, path: &Path<A>, user: &ShortText) -> Result<(), NoMemory>
         requires position { IsPosition self.old path.now.items }
         requires few { active_in self.old < number_end }
         ensures ok { OnOk result
             (self.new ≡ map (entered_row K (path_at path.now.items self.old) user.now) self.old) }
         ensures err { OnErr result (self.new ≡ self.old) }
-        ensures absent { OnErr result (user_row_at path.now.items user.now self.old ≡ None) }
     {
         let change = Move {
             user,
@@ -357,29 +357,24 @@ impl<const K: usize, A: Allocator + Copy> QueueTree<K, A> {
         self.root.next_child(path.as_slice(), after)
     }
 
-    /// An application waits at the queue from now on. `NoMemory` changes nothing.
-    pub fn wait(&mut self, path: &Path<A>, number: u64) -> Result<(), NoMemory>
-        requires position { IsPosition self.old path.now.items }
+    /// An application of the leaf waits there from now on. It takes no memory: the room was made when the application entered.
+    pub fn wait(&mut self, path: &Path<A>, number: u64)
         requires number { 1 ≤ number }
         requires other { ¬ IsIn number (waiting_at path.now.items self.old) }
+        requires room { HasRoomAt path.now.items self.old }
         requires few { waits_in self.old < number_end }
-        ensures ok { OnOk result (self.new ≡
-            map (change_along waiting_above (waiting_more number) path.now.items) self.old) }
-        ensures err { OnErr result (self.new ≡ self.old) }
+        ensures { self.new ≡ map (waiting_row number (path_at path.now.items self.old)) self.old }
     {
         let change = Wait { number };
-        match self.root.change(path.as_slice(), &change) {
-            Ok(()) => {}
-            Err(NoMemory) => return Err(NoMemory),
-        }
-        Ok(())
+        let Ok(()) = self.root.change(path.as_slice(), &change) else {
+            unreachable!()
+        };
     }
 
     /// An application that waited at the queue does so no more.
     pub fn serve(&mut self, path: &Path<A>, number: u64)
         requires { IsIn number (waiting_at path.now.items self.old) }
-        ensures { self.new ≡
-            map (change_along served_above (waiting_less number) path.now.items) self.old }
+        ensures { self.new ≡ map (served_row number (path_at path.now.items self.old)) self.old }
     {
         let change = Serve { number };
         let Ok(()) = self.root.change(path.as_slice(), &change) else {

@@ -7,6 +7,6 @@ wait_at-requires g c = (
   (search),
   (
     elim (c.requires.within Measure.waiting) [ inl none ↦ absurd (omega (arith, none)) | inr most ↦ omega (arith, most) ],
-    (c.requires.can.0, c.requires.can.1),
+    (c.requires.can.numbers, (c.requires.can.other, c.requires.can.room)),
   ),
 )

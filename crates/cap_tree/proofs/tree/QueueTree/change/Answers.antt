@@ -1,4 +1,4 @@
-use Rattle.cap_tree.proofs.Prelude.{rules, ◌≡◌, ◌∙◌, sym, refl, subst, None, IsPart, count_in, moved_above, moved_at, AreRows}
+use Rattle.cap_tree.proofs.Prelude.{rules, ◌≡◌, ◌<◌, ◌⊎◌, ◌∙◌, sym, refl, subst, None, IsPart, count_in, moved_above, moved_at, AreRows}
 use Rattle.cap_tree.proofs.Callers.{row_holds, holds_of_row}
 use Rattle.cap_tree.specs.Counted.{AreWaiting}
 use Rattle.cap_tree.proofs.Waits.{waiting_kept}
@@ -32,9 +32,10 @@ returns-clause-ok g c =
     rw (← c.self.view_is, ← c.as_slice.ensures)
     (c.in-Ok.ensures.changed ∙ changed_rows above at c.as_slice.result.now c.self.inside.root c.self.invariant.rows_are.paths (rw c.as_slice.ensures (rw (← c.self.view_is) at c.requires.position)))
 
-pub returns-in-Err-clause-absent : goal.returns-in-Err-clause-absent
-returns-in-Err-clause-absent g c =
-    rw (← c.self.view_is, ← c.as_slice.ensures) (holds_of_row c.args.change.now.user.now c.as_slice.result.now c.self.inside.root (λ row. row ≡ None) c.in-Err.ensures.grows)
+pub returns-in-Err-clause-grows : goal.returns-in-Err-clause-grows
+returns-in-Err-clause-grows g c =
+    rw (← c.self.view_is, ← c.as_slice.ensures)
+    (holds_of_row c.args.change.now.user.now c.as_slice.result.now c.self.inside.root (λ row. (row ≡ None) ⊎ (c.args.change.now.old.active < c.args.change.now.new.active)) c.in-Err.ensures.grows)
 
 pub as_slice-requires : goal.as_slice-requires
 as_slice-requires g c = search path_fits

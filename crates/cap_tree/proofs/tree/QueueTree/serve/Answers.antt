@@ -1,6 +1,7 @@
-use Rattle.cap_tree.proofs.Prelude.{arith, sym, subst, refl, inl, AreRows}
+use Rattle.cap_tree.proofs.Prelude.{◌∙◌, arith, sym, subst, refl, inl, AreRows}
 use Rattle.cap_tree.proofs.Callers.{never_grows}
 use Rattle.cap_tree.proofs.Listings.{rows_kept}
+use Rattle.cap_tree.proofs.RowPaths.{changed_rows}
 use Rattle.cap_tree.proofs.Sizes.{path_fits, queue_fits}
 use Rattle.cap_tree.proofs.Waits.{member_there, served_there, waiting_one_less}
 use Rattle.cap_tree.specs.Counted.{AreWaiting}
@@ -31,7 +32,11 @@ invariant_of-self g c =
     }
 
 pub returns : goal.returns
-returns g c = rw (← c.self.view_is, ← c.as_slice.ensures) c.in-Ok.ensures.changed
+returns g c =
+    let member = rw (← c.self.view_is, ← c.as_slice.ensures) at c.requires in
+    rw (← c.self.view_is, ← c.as_slice.ensures)
+    (c.in-Ok.ensures.changed
+    ∙ changed_rows served_above (waiting_less c.args.number) c.as_slice.result.now c.self.inside.root c.self.invariant.rows_are.paths (member_there c.args.number c.as_slice.result.now c.self.inside.root member))
 
 pub change-requires-room-T-TreeItem : goal.change-requires-room-T-TreeItem
 change-requires-room-T-TreeItem g c κs within = search queue_fits
