@@ -150,7 +150,7 @@ impl<const K: usize> App<K> {
     }
 
     /// Whether it waits for containers: its master has registered, and it has asks.
-    pub(crate) fn is_waiting(&self) -> bool
+    pub fn is_waiting(&self) -> bool
         ensures { result ≡ is_waiting self.now.app }
     {
         self.registered && !self.asks.is_empty()

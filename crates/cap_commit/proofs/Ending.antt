@@ -1,5 +1,5 @@
 -- What a cluster keeps where a container ends.
-use Rattle.cap_commit.proofs.Prelude.{◌≡◌, ℕ, ◌+◌, ◌≤◌, Bool, true, false, cond, List, [], ◌∷◌, ◌++◌, length, map, Some, None, refl, sym, ◌∙◌, ap, subst, arith, IsSome, is_some, ◌==◌, not, find, filter, count_by, if◌then◌else◌, sum_by, nat_tests, append-nil, length-map, count_by-le-length, length-filter, bytes_eq-Decides, numbers_turned, amount, QueueRow, Cause, End, Flat, App, AppTable, Container, NodeTable, app_at, change_app, Reservation, is_among, with_ends, after_ends, complete, rising_kept, IsIn, found, of_filter, each_of, of_each, of_map, change_stands, counts, KeepsApp, AppsChange, ends_change, only_app, count_of, count_changed, ended_amount, same_use, sum_without, used_by, Measure, MayGive, zero_count, use_alone, count_where, Row, lowered_row, queues_of, user_row_at, HeldApps, UsesRoom, live_of, position_of, AreReserved, Parts, IsCluster, IsInLeaf, flat_of, of_cluster, count_positive}
+use Rattle.cap_commit.proofs.Prelude.{◌≡◌, ℕ, ◌+◌, ◌≤◌, Bool, true, false, cond, List, [], ◌∷◌, ◌++◌, length, map, Some, None, refl, sym, ◌∙◌, ap, subst, arith, IsSome, is_some, ◌==◌, not, find, filter, count_by, if◌then◌else◌, sum_by, nat_tests, append-nil, length-map, count_by-le-length, length-filter, bytes_eq-Decides, numbers_turned, amount, QueueRow, Cause, End, Flat, App, AppTable, Container, NodeTable, app_at, change_app, Reservation, is_among, with_ends, after_ends, complete, rising_kept, IsIn, found, of_filter, each_of, of_each, of_map, change_stands, counts, KeepsApp, AppsChange, ends_change, only_app, count_of, count_changed, ended_amount, same_use, sum_without, used_by, Measure, MayGive, zero_count, use_alone, count_where, Row, lowered_row, queues_of, user_row_at, HeldApps, UsesRoom, live_of, position_of, AreReserved, Parts, AreConsistent, IsInLeaf, flat_of, of_cluster, count_positive}
 use Rattle.cap_commit.proofs.Holding.{leaf_same, still_placed}
 use Rattle.cap_commit.proofs.Moving.{HasMoved, gives, may_give, moved_settings, moved_stays, tied_moved}
 use Rattle.cap_commit.proofs.Owning.{IsOwned, count_for, owned_stands}
@@ -35,7 +35,7 @@ told_all : (cause : Cause) (c : Container) (apps : List App) → map (telling ca
 told_all cause c [] = refl
 told_all cause c (app ∷ apps) = λ i. told cause c app i ∷ told_all cause c apps i
 
-module _ {K : ℕ} (p : Parts K) (h : IsCluster p) (number : ℕ) (c : Container) (found_it : find (λ d. d.number == number) p.nodes.live ≡ Some c) where
+module _ {K : ℕ} (p : Parts K) (h : AreConsistent p) (number : ℕ) (c : Container) (found_it : find (λ d. d.number == number) p.nodes.live ≡ Some c) where
   abbrev old : Flat K
   old = flat_of p
 
@@ -98,7 +98,7 @@ module _ {K : ℕ} (p : Parts K) (h : IsCluster p) (number : ℕ) (c : Container
 
     -- after it has ended, and its application is to be told of it
     pub held_ended : (apps' : HeldApps) (nodes' : NodeTable) (n : ℕ) (end : End) → nodes' ≡ complete (c ∷ []) p.nodes → n ≡ c.app → apps'.table ≡ change_app n (λ app. record app { ends = app.ends ++ end ∷ [] }) p.apps.table →
-        UsesRoom n 0 0 1 p.apps.accounts apps'.accounts → IsCluster (record p { rows = map (lowered_row K a.leaf a.user c.resource) p.rows; apps = apps'; nodes = nodes' })
+        UsesRoom n 0 0 1 p.apps.accounts apps'.accounts → AreConsistent (record p { rows = map (lowered_row K a.leaf a.user c.resource) p.rows; apps = apps'; nodes = nodes' })
     held_ended apps' nodes' n end lift same tell room =
         let q : Parts K = record p { rows = map (lowered_row K a.leaf a.user c.resource) p.rows; apps = apps'; nodes = nodes' } in
         let f : App → App = λ app. if app.number == n then record app { ends = app.ends ++ end ∷ [] } else app in

@@ -1,5 +1,5 @@
 -- A cluster after a grant: what it keeps, and that its use is a sum.
-use Rattle.cap_commit.proofs.Prelude.{◌≡◌, ℕ, ◌+◌, ◌<◌, ◌≤◌, Bool, true, false, cond, List, [], ◌∷◌, ◌++◌, length, length-append, map, Some, None, refl, sym, ◌∙◌, ap, subst, inl, inr, arith, Option, IsSome, not, ◌==◌, find, filter, if◌then◌else◌, sum_by, cases_lt, nat_tests, get_or_past, length-map, sum_by_push, sum_by-le-sum_by, bytes_eq-Decides, IsWithin, amount, amount_max, amounts_exchanged, sum_max, amount-exchanged, holds_of, fits, part, Flat, App, AppTable, ClusterNode, Container, NodeTable, Reservation, app_at, change_app, node_in, Grant, Key, ProposalKind, sight_of, NodeProposal, is_grant, reason_of, after_grant, launch, news_of, take_one, sum_of_totals, held_on, IsIn, each_of, of_each, found, of_filter, of_map, in_either, found_by_number, rising_more, part_filter, not_none, value_of, numbers_turned, change_stands, AppsChange, KeepsApp, grant_change, only_app, counts, counted, use_amount, amount_of, fits_amounts, count_changed, count_of, length_used, used_by, if_less, on_some_node, reserved_on_nodes, sum_below, taken, Measure, MayGive, use_alone, Row, applied_row, queues_of, root_use, user_row_at, Account, HasRooms, HeldApps, UsesRoom, live_of, position_of, IsSound, AreReserved, fits_its_node, Parts, IsCluster, IsInLeaf, IsRowOf, flat_of, of_cluster, taken_back, count_positive, its_node_there, part_reserved}
+use Rattle.cap_commit.proofs.Prelude.{◌≡◌, ℕ, ◌+◌, ◌<◌, ◌≤◌, Bool, true, false, cond, List, [], ◌∷◌, ◌++◌, length, length-append, map, Some, None, refl, sym, ◌∙◌, ap, subst, inl, inr, arith, Option, IsSome, not, ◌==◌, find, filter, if◌then◌else◌, sum_by, cases_lt, nat_tests, get_or_past, length-map, sum_by_push, sum_by-le-sum_by, bytes_eq-Decides, IsWithin, amount, amount_max, amounts_exchanged, sum_max, amount-exchanged, holds_of, fits, part, Flat, App, AppTable, ClusterNode, Container, NodeTable, Reservation, app_at, change_app, node_in, Grant, Key, ProposalKind, sight_of, NodeProposal, is_grant, reason_of, after_grant, launch, news_of, take_one, sum_of_totals, held_on, IsIn, each_of, of_each, found, of_filter, of_map, in_either, found_by_number, rising_more, part_filter, not_none, value_of, numbers_turned, change_stands, AppsChange, KeepsApp, grant_change, only_app, counts, counted, use_amount, amount_of, fits_amounts, count_changed, count_of, length_used, used_by, if_less, on_some_node, reserved_on_nodes, sum_below, taken, Measure, MayGive, use_alone, Row, applied_row, queues_of, root_use, user_row_at, Account, HasRooms, HeldApps, UsesRoom, live_of, position_of, IsSound, AreReserved, fits_its_node, Parts, AreConsistent, IsInLeaf, IsRowOf, flat_of, of_cluster, taken_back, count_positive, its_node_there, part_reserved}
 use Rattle.cap_commit.proofs.Granting.{grants}
 use Rattle.cap_commit.proofs.Holding.{leaf_same, still_placed}
 use Rattle.cap_commit.proofs.Moving.{HasMoved, may_give, moved_settings, moved_stays, tied_moved}
@@ -95,7 +95,14 @@ twice_changed n f g same (x ∷ apps) = λ i. here (x.number == n) refl i ∷ tw
     here true e = ap (λ m. cond (m == n) (g (f x)) (f x)) (same x) ∙ ap (λ c. cond c (g (f x)) (f x)) e
     here false e = ap (λ c. cond c (g x) x) e
 
-module _ {K : ℕ} (p : Parts K) (h : IsCluster p) (q : NodeProposal) (passes : reason_of (sight_of (flat_of p)) q ≡ None) (kind : is_grant q.kind ≡ true)
+-- the table after an ask was counted down and a grant waits
+pub granted_table : {K : ℕ} (p : Parts K) (q : NodeProposal) (taken_apps apps' : HeldApps) (g : Grant) → taken_apps.table ≡ change_app q.app (λ app. record app { asks = take_one q.key app.asks }) p.apps.table →
+    apps'.table ≡ change_app q.app (λ app. record app { grants = app.grants ++ g ∷ [] }) taken_apps.table → apps'.table ≡ change_app q.app (λ app. record app { asks = take_one q.key app.asks; grants = app.grants ++ g ∷ [] }) p.apps.table
+granted_table p q taken_apps apps' g take add =
+    add ∙ ap (change_app q.app (λ (app : App). record app { grants = app.grants ++ g ∷ [] })) take
+    ∙ ap (λ xs. record p.apps.table { active = xs }) (twice_changed q.app (λ app. record app { asks = take_one q.key app.asks }) (λ app. record app { grants = app.grants ++ g ∷ [] }) (λ x. refl) p.apps.table.active)
+
+module _ {K : ℕ} (p : Parts K) (h : AreConsistent p) (q : NodeProposal) (passes : reason_of (sight_of (flat_of p)) q ≡ None) (kind : is_grant q.kind ≡ true)
     (a : App) (owner : find (λ (x : App). x.number == q.app) p.apps.table.active ≡ Some a) (short : length (taken_back (sight_of (flat_of p)) q) ≤ K) (count : length q.resource ≡ K) where
   abbrev old : Flat K
   old = flat_of p
@@ -208,7 +215,7 @@ module _ {K : ℕ} (p : Parts K) (h : IsCluster p) (q : NodeProposal) (passes : 
         made : List App → Flat K
         made apps = record { settings = old.settings; apps = record p.apps.table { active = apps }; nodes = nodes_after }
 
-    pub held_granted : IsCluster (record p { rows = map (applied_row K a.leaf a.user back q.resource) p.rows; apps = apps'; nodes = nodes_after })
+    pub held_granted : AreConsistent (record p { rows = map (applied_row K a.leaf a.user back q.resource) p.rows; apps = apps'; nodes = nodes_after })
     held_granted = record {
       tied = tied_moved old (flat_of after) a.leaf a.user (use_alone back) (use_alone q.resource) (moved_to (flat_of after) change refl refl) p.rows h.tied;
       placed =

@@ -1,6 +1,6 @@
 -- What a cluster keeps where a container is granted.
-use Rattle.cap_commit.proofs.Prelude.{◌≡◌, ℕ, ◌+◌, ◌<◌, ◌≤◌, Bool, true, false, cond, List, [], ◌∷◌, ◌++◌, length, map, Some, None, refl, sym, ◌∙◌, ap, inl, inr, arith, Option, IsSome, is_some, not, ◌==◌, ◌&&◌, find, filter, option_map_or, sum_by, and_parts, cases_lt, nat_tests, get_or_past, sum_by-cons, sum_by_push, Fits, amount, zeros, amount-zeros, fits, Flat, App, Container, Reservation, app_at, node_in, Sight, sight_of, seen_app, NodeProposal, IsAdmissible, NeedsOf, is_grant, reason_of, ProposalKind, AreApart, held_for, rejected_exactly, IsIn, found, of_filter, of_map, none_in, filter_whole, value_of, standing, counts, counted, live_part, reserved_part, same_counts, use_amount, fits_amounts, Test, count_of, length_used, used_by, free_on, Measure, use_alone, count_where, Parts, IsCluster, flat_of, own_reservation, taken_back}
-use Rattle.cap_commit.proofs.Moving.{HasMoved, of_test}
+use Rattle.cap_commit.proofs.Prelude.{◌≡◌, ℕ, ◌+◌, ◌<◌, ◌≤◌, Bool, true, false, cond, List, [], ◌∷◌, ◌++◌, length, map, Some, None, refl, sym, ◌∙◌, ap, inl, inr, arith, Option, IsSome, is_some, not, ◌==◌, ◌&&◌, find, filter, option_map_or, sum_by, and_parts, cases_lt, nat_tests, get_or_past, sum_by-cons, sum_by_push, Fits, amount, zeros, amount-zeros, fits, Flat, App, Container, Reservation, app_at, node_in, Sight, sight_of, seen_app, NodeProposal, IsAdmissible, NeedsOf, is_grant, reason_of, ProposalKind, AreApart, held_for, rejected_exactly, IsIn, found, of_filter, of_map, none_in, filter_whole, value_of, standing, counts, counted, live_part, reserved_part, same_counts, use_amount, fits_amounts, Test, count_of, length_used, used_by, free_on, Measure, use_alone, count_where, Parts, AreConsistent, flat_of, own_reservation, taken_back}
+use Rattle.cap_commit.proofs.Moving.{HasMoved, none_waits, of_test}
 use Rattle.cap_commit.proofs.Seen.{free_seen, node_there, own_is, reservation_is_seen}
 
 -- where a member passes, something is found
@@ -60,7 +60,7 @@ its_app {K} old q passes =
     let g = of_filter (λ (app : App). app.registered) old.apps.active (m.0) (m.1) in
     some_found (λ (x : App). x.number == q.app) old.apps.active (m.0) (g.1) (ap (λ s. s.number == q.app) (m.2) ∙ f.1)
 
-module _ {K : ℕ} (p : Parts K) (h : IsCluster p) (q : NodeProposal) (passes : reason_of (sight_of (flat_of p)) q ≡ None) (kind : is_grant q.kind ≡ true) where
+module _ {K : ℕ} (p : Parts K) (h : AreConsistent p) (q : NodeProposal) (passes : reason_of (sight_of (flat_of p)) q ≡ None) (kind : is_grant q.kind ≡ true) where
   abbrev old : Flat K
   old = flat_of p
 
@@ -159,6 +159,7 @@ module _ {K : ℕ} (p : Parts K) (h : IsCluster p) (q : NodeProposal) (passes : 
           past cluster test k g = get_or_past (used_by cluster test) k 0 (let l = length_used cluster test in omega (arith, g, l))
 
           counted_so : (test : Test) (m : Measure) → of_test new test m + count_where (test a.leaf a.user) (use_alone (taken_back sight q)) m ≡ of_test old test m + count_where (test a.leaf a.user) (use_alone q.resource) m
+          counted_so test Measure.waiting = omega (arith, none_waits (test a.leaf a.user) (use_alone (taken_back sight q)), none_waits (test a.leaf a.user) (use_alone q.resource))
           counted_so test Measure.active = omega (arith, tally test, none_active (test a.leaf a.user) (taken_back sight q), none_active (test a.leaf a.user) q.resource)
           counted_so test (Measure.uses k) = elim (cases_lt k K) [
             | inl b ↦ used_after test k b
@@ -171,6 +172,7 @@ module _ {K : ℕ} (p : Parts K) (h : IsCluster p) (q : NodeProposal) (passes : 
           ]
 
           fitted : (test : Test) (m : Measure) → count_where (test a.leaf a.user) (use_alone (taken_back sight q)) m ≤ of_test old test m
+          fitted test Measure.waiting = omega (arith, none_waits (test a.leaf a.user) (use_alone (taken_back sight q)))
           fitted test Measure.active = omega (arith, none_active (test a.leaf a.user) (taken_back sight q))
           fitted test (Measure.uses k) = elim (cases_lt k K) [
             | inl b ↦ fits_before test k b

@@ -1,5 +1,5 @@
 -- What a cluster keeps, after the changes that calls make.
-use Rattle.cap_commit.proofs.Prelude.{◌≡◌, ℕ, ◌≤◌, Bool, true, false, cond, List, [], ◌∷◌, ◌++◌, length, map, Some, None, refl, sym, ◌∙◌, ap, subst, inl, inr, arith, ◌==◌, IsSome, not, bytes_eq, nat_eq, find, filter, is_some, if◌then◌else◌, All, list_any, starts_with, option_map_or, not-true, nat_tests, append-nil, length-map, map-id, bytes_eq-Decides, amount, applications_max, resources_max, QueueRow, Flat, App, AppTable, Container, NodeTable, app_at, with_reserved, containers_of, change_app, Reservation, Cause, container_numbers, after_ends, with_ends, without_containers, after_finish_master, remove_app, submit_refusal, new_app, add_app, IsLeaf, IsRising, IsIn, found, in_either, of_filter, each_of, of_each, of_map, filter_none, length-kept, find_others, find_with_more, rising_to_high, one_where, IsSite, change_stands, counts, KeepsApp, AppsChange, only_app, may_enter, unrefused_leaf, HoldsSame, count_of, count_changed, same_use, change_holds, coming_holds, going_holds, Measure, IsUnused, MayLeave, amount-zeros, zero_count, one_app, Row, IsAt, entered_row, left_row, queues_of, user_row_at, any_kept, path_kept, Account, HeldApp, HeldApps, UsesRoom, IsEntered, IsLeft, account_of, live_of, position_of, AreReserved, Parts, IsCluster, IsInLeaf, flat_of, of_cluster, count_entered, count_without, only_one, unused, none_reserved_yet, Limits}
+use Rattle.cap_commit.proofs.Prelude.{◌≡◌, ℕ, ◌≤◌, Bool, true, false, cond, List, [], ◌∷◌, ◌++◌, length, map, Some, None, refl, sym, ◌∙◌, ap, subst, inl, inr, arith, ◌==◌, IsSome, not, bytes_eq, nat_eq, find, filter, is_some, if◌then◌else◌, All, list_any, starts_with, option_map_or, not-true, nat_tests, append-nil, length-map, map-id, bytes_eq-Decides, amount, applications_max, resources_max, QueueRow, Flat, App, AppTable, Container, NodeTable, app_at, with_reserved, containers_of, change_app, Reservation, Cause, container_numbers, after_ends, with_ends, without_containers, after_finish_master, remove_app, submit_refusal, new_app, add_app, IsLeaf, IsRising, IsIn, found, in_either, of_filter, each_of, of_each, of_map, filter_none, length-kept, find_others, find_with_more, rising_to_high, one_where, IsSite, change_stands, counts, KeepsApp, AppsChange, only_app, may_enter, unrefused_leaf, HoldsSame, count_of, count_changed, same_use, change_holds, coming_holds, going_holds, Measure, IsUnused, MayLeave, amount-zeros, zero_count, one_app, Row, IsAt, entered_row, left_row, queues_of, user_row_at, any_kept, path_kept, Account, HeldApp, HeldApps, UsesRoom, IsEntered, IsLeft, account_of, live_of, position_of, AreReserved, Parts, AreConsistent, IsInLeaf, flat_of, of_cluster, count_entered, count_without, only_one, unused, none_reserved_yet, Limits}
 use Rattle.std.proofs.lemmas.List.{length-append}
 use Rattle.cap_commit.proofs.Owning.{IsOwned, IsReservedFor, count_for, live_kept, none_left, none_of, none_reserved, owned_after, owned_stands, sites_owned}
 use Rattle.cap_commit.proofs.RowsAt.{row_at, still_at}
@@ -39,7 +39,7 @@ still_placed old new leaf at x y same number position h = record {
 module _ {K : ℕ} where
   -- a cluster that was opened just now
   pub held_opened : (p : Parts K) → p.apps.table.active ≡ [] → p.apps.accounts ≡ [] → p.nodes.live ≡ [] → p.nodes.reserved ≡ [] → 1 ≤ p.nodes.next_container → All (λ r. IsUnused K r.item) p.rows →
-      p.limits.application_limit ≤ applications_max → K ≤ resources_max → IsCluster p
+      p.limits.application_limit ≤ applications_max → K ≤ resources_max → AreConsistent p
   held_opened p none accounts live reserved first unused l k =
       record {
         tied = unused_tied (flat_of p) p.rows none live reserved unused;
@@ -55,7 +55,7 @@ module _ {K : ℕ} where
         resources = k;
       }
 
-  module _ (p : Parts K) (h : IsCluster p) where
+  module _ (p : Parts K) (h : AreConsistent p) where
     abbrev old : Flat K
     old = flat_of p
 
@@ -64,7 +64,7 @@ module _ {K : ℕ} where
 
     -- after a change of the nodes that keeps what is live
     pub held_nodes : (nodes' : NodeTable) → nodes'.live ≡ p.nodes.live → nodes'.reserved ≡ p.nodes.reserved → nodes'.next_container ≡ p.nodes.next_container →
-        AreReserved nodes'.present nodes'.reserved → IsCluster (record p { nodes = nodes' })
+        AreReserved nodes'.present nodes'.reserved → AreConsistent (record p { nodes = nodes' })
     held_nodes nodes' live reserved next fit =
         let q : Parts K = record p { nodes = nodes' } in
         record {
@@ -83,7 +83,7 @@ module _ {K : ℕ} where
 
     -- after a change of applications that keeps what they are, and what is live
     pub held_apps : (apps' : HeldApps) (f : App → App) → KeepsApp f → apps'.table.active ≡ map f p.apps.table.active → apps'.table.next ≡ p.apps.table.next →
-        ((n : ℕ) → position_of n apps'.accounts ≡ position_of n p.apps.accounts) → ((n : ℕ) → live_of n apps'.accounts ≡ live_of n p.apps.accounts) → IsCluster (record p { apps = apps' })
+        ((n : ℕ) → position_of n apps'.accounts ≡ position_of n p.apps.accounts) → ((n : ℕ) → live_of n apps'.accounts ≡ live_of n p.apps.accounts) → AreConsistent (record p { apps = apps' })
     held_apps apps' f k e next positions live =
         let q : Parts K = record p { apps = apps' } in
         let change : AppsChange old (flat_of q) = record { change = f; keeps = k; active = e; next = next } in
@@ -107,25 +107,25 @@ module _ {K : ℕ} where
         }
 
     -- after a change of one
-    pub held_app : (n asks : ℕ) (apps' : HeldApps) (f : App → App) → KeepsApp f → apps'.table ≡ change_app n f p.apps.table → UsesRoom n asks 0 0 p.apps.accounts apps'.accounts → IsCluster (record p { apps = apps' })
+    pub held_app : (n asks : ℕ) (apps' : HeldApps) (f : App → App) → KeepsApp f → apps'.table ≡ change_app n f p.apps.table → UsesRoom n asks 0 0 p.apps.accounts apps'.accounts → AreConsistent (record p { apps = apps' })
     held_app n asks apps' f k e room =
         held_apps apps' (λ app. if app.number == n then f app else app) (only_app n f k) (ap (λ (t : AppTable). t.active) e) (ap (λ (t : AppTable). t.next) e) room.positions (live_kept n asks p.apps.accounts apps'.accounts room)
 
     -- after more room was made
-    pub held_room : (n : ℕ) (apps' : HeldApps) → apps'.table ≡ p.apps.table → UsesRoom n 0 0 0 p.apps.accounts apps'.accounts → IsCluster (record p { apps = apps' })
+    pub held_room : (n : ℕ) (apps' : HeldApps) → apps'.table ≡ p.apps.table → UsesRoom n 0 0 0 p.apps.accounts apps'.accounts → AreConsistent (record p { apps = apps' })
     held_room n apps' e room =
         held_apps apps' (λ a. a) (record { number = λ a. refl; leaf = λ a. refl; user = λ a. refl }) (ap (λ (t : AppTable). t.active) e ∙ sym (map-id p.apps.table.active)) (ap (λ (t : AppTable). t.next) e) room.positions
         (live_kept n 0 p.apps.accounts apps'.accounts room)
 
     -- after there is room for one more application
-    pub held_same : (apps' : HeldApps) → apps'.table ≡ p.apps.table → apps'.accounts ≡ p.apps.accounts → IsCluster (record p { apps = apps' })
+    pub held_same : (apps' : HeldApps) → apps'.table ≡ p.apps.table → apps'.accounts ≡ p.apps.accounts → AreConsistent (record p { apps = apps' })
     held_same apps' e same =
         held_apps apps' (λ a. a) (record { number = λ a. refl; leaf = λ a. refl; user = λ a. refl }) (ap (λ (t : AppTable). t.active) e ∙ sym (map-id p.apps.table.active)) (ap (λ (t : AppTable). t.next) e) (λ n. ap (position_of n) same)
         (λ n. ap (live_of n) same)
 
     -- after a change of settings
     pub held_settings : (f : Row → Row) (g : QueueRow → QueueRow) (limits' : Limits K) → ChangesSettings f g → limits'.application_limit ≤ applications_max →
-        IsCluster (record p { rows = map f p.rows; limits = limits' })
+        AreConsistent (record p { rows = map f p.rows; limits = limits' })
     held_settings f g limits' k few =
         let q : Parts K = record p { rows = map f p.rows; limits = limits' } in
         record {
@@ -148,7 +148,7 @@ module _ {K : ℕ} where
 
     -- after an application has entered
     pub held_entered : (leaf user position : List ℕ) (apps' : HeldApps) → IsRising 1 (map (λ (x : App). x.number) p.apps.table.active) p.apps.table.next → submit_refusal old leaf ≡ None → IsAt p.rows leaf position → apps'.table ≡ add_app leaf user p.apps.table → IsEntered p.apps.table.next position p.apps.accounts apps'.accounts →
-        IsCluster (record p { rows = map (entered_row K leaf user) p.rows; apps = apps' })
+        AreConsistent (record p { rows = map (entered_row K leaf user) p.rows; apps = apps' })
     held_entered leaf user position apps' rising unrefused at e accounts =
         let q : Parts K = record p { rows = map (entered_row K leaf user) p.rows; apps = apps' } in
         let n = p.apps.table.next in
@@ -256,7 +256,7 @@ module _ {K : ℕ} where
           may_leave old without_it a.leaf a.user (one_app K) (zero_count K) (leaves without_it old a.leaf a.user one_less) some_active p.rows h.tied (position_of a.number p.apps.accounts) at.row at.member at.path_is at.item_is spent
 
       -- after it has left
-      pub held_left : (apps' : HeldApps) → apps'.table ≡ remove_app n p.apps.table → IsLeft n p.apps.accounts apps'.accounts → IsCluster (record p { rows = map (left_row K a.leaf a.user) p.rows; apps = apps' })
+      pub held_left : (apps' : HeldApps) → apps'.table ≡ remove_app n p.apps.table → IsLeft n p.apps.accounts apps'.accounts → AreConsistent (record p { rows = map (left_row K a.leaf a.user) p.rows; apps = apps' })
       held_left apps' e accounts =
           let q : Parts K = record p { rows = map (left_row K a.leaf a.user) p.rows; apps = apps' } in
           let active : apps'.table.active ≡ filter (λ (x : App). not (x.number == n)) p.apps.table.active = ap (λ (t : AppTable). t.active) e in

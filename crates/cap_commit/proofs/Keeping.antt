@@ -1,9 +1,9 @@
 -- What a cluster keeps where room is reserved on a node.
-use Rattle.cap_commit.proofs.Prelude.{◌≡◌, ℕ, ◌+◌, ◌<◌, ◌≤◌, Bool, true, false, cond, List, [], ◌∷◌, ◌++◌, length, map, Some, None, refl, sym, ◌∙◌, ap, subst, inl, inr, arith, IsSome, ◌==◌, find, sum_by, cases_lt, get_or_past, sum_by_push, sum_by-le-sum_by, bytes_eq-Decides, IsWithin, amount, amounts_exchanged, sum_max, zeros, amount-exchanged, fits, Flat, App, Container, NodeTable, Reservation, app_at, node_in, Sight, sight_of, NodeProposal, IsAdmissible, NeedsOf, is_grant, reason_of, ProposalKind, add_reservation, after_reserve, rejected_exactly, reserve_apart, IsIn, each_of, of_each, found, in_either, counts, counted, use_amount, Test, count_of, length_used, used_by, if_less, Measure, MayGive, use_alone, Row, applied_row, queues_of, root_use, user_row_at, count_where, position_of, AreReserved, fits_its_node, Parts, IsCluster, IsInLeaf, IsRowOf, flat_of, of_cluster, count_positive, IsSound}
+use Rattle.cap_commit.proofs.Prelude.{◌≡◌, ℕ, ◌+◌, ◌<◌, ◌≤◌, Bool, true, false, cond, List, [], ◌∷◌, ◌++◌, length, map, Some, None, refl, sym, ◌∙◌, ap, subst, inl, inr, arith, IsSome, ◌==◌, find, sum_by, cases_lt, get_or_past, sum_by_push, sum_by-le-sum_by, bytes_eq-Decides, IsWithin, amount, amounts_exchanged, sum_max, zeros, amount-exchanged, fits, Flat, App, Container, NodeTable, Reservation, app_at, node_in, Sight, sight_of, NodeProposal, IsAdmissible, NeedsOf, is_grant, reason_of, ProposalKind, add_reservation, after_reserve, rejected_exactly, reserve_apart, IsIn, each_of, of_each, found, in_either, counts, counted, use_amount, Test, count_of, length_used, used_by, if_less, Measure, MayGive, use_alone, Row, applied_row, queues_of, root_use, user_row_at, count_where, position_of, AreReserved, fits_its_node, Parts, AreConsistent, IsInLeaf, IsRowOf, flat_of, of_cluster, count_positive, IsSound}
 use Rattle.cap_commit.proofs.Granted.{live_few, reserved_few}
 use Rattle.cap_commit.proofs.Granting.{its_app, none_active, past_where, zero_where}
 use Rattle.cap_commit.proofs.Holding.{leaf_same, still_placed}
-use Rattle.cap_commit.proofs.Moving.{HasMoved, may_give, moved_settings, moved_stays, of_test, tied_moved}
+use Rattle.cap_commit.proofs.Moving.{HasMoved, may_give, moved_settings, moved_stays, none_waits, of_test, tied_moved}
 use Rattle.cap_commit.proofs.RowsAt.{row_at}
 use Rattle.cap_commit.proofs.Seen.{node_there, total_seen}
 use Rattle.cap_commit.proofs.Ties.{in_queue, of_user_in}
@@ -24,7 +24,7 @@ reserved_is p rows' r nodes' same is = λ i. record { settings = record (flat_of
 abbrev pub reserved_of : NodeProposal → Reservation
 reserved_of q = record { app = q.app; key = q.key; node = q.node; resource = q.resource }
 
-module _ {K : ℕ} (p : Parts K) (h : IsCluster p) (q : NodeProposal) (passes : reason_of (sight_of (flat_of p)) q ≡ None) (kind : is_grant q.kind ≡ false)
+module _ {K : ℕ} (p : Parts K) (h : AreConsistent p) (q : NodeProposal) (passes : reason_of (sight_of (flat_of p)) q ≡ None) (kind : is_grant q.kind ≡ false)
     (a : App) (owner : find (λ (x : App). x.number == q.app) p.apps.table.active ≡ Some a) (count : length q.resource ≡ K) where
   abbrev old : Flat K
   old = flat_of p
@@ -55,6 +55,7 @@ module _ {K : ℕ} (p : Parts K) (h : IsCluster p) (q : NodeProposal) (passes : 
       past cluster test k g = get_or_past (used_by cluster test) k 0 (let l = length_used cluster test in omega (arith, g, l))
 
       counted_so : (test : Test) (m : Measure) → of_test new test m + count_where (test a.leaf a.user) (use_alone (zeros K)) m ≡ of_test old test m + count_where (test a.leaf a.user) (use_alone q.resource) m
+      counted_so test Measure.waiting = omega (arith, none_waits (test a.leaf a.user) (use_alone (zeros K)), none_waits (test a.leaf a.user) (use_alone q.resource))
       counted_so test Measure.active =
           let same : count_of test new.apps.active ≡ count_of test old.apps.active = ap (λ (t : Rattle.cap_model.specs.Flat.AppTable). count_of test t.active) apps in
           omega (arith, same, none_active (test a.leaf a.user) (zeros K), none_active (test a.leaf a.user) q.resource)
@@ -74,6 +75,7 @@ module _ {K : ℕ} (p : Parts K) (h : IsCluster p) (q : NodeProposal) (passes : 
       ]
 
       fitted : (test : Test) (m : Measure) → count_where (test a.leaf a.user) (use_alone (zeros K)) m ≤ of_test old test m
+      fitted test Measure.waiting = omega (arith, none_waits (test a.leaf a.user) (use_alone (zeros K)))
       fitted test Measure.active = omega (arith, none_active (test a.leaf a.user) (zeros K))
       fitted test (Measure.uses k) = omega (arith, zero_where K (test a.leaf a.user) k)
 
@@ -151,7 +153,7 @@ module _ {K : ℕ} (p : Parts K) (h : IsCluster p) (q : NodeProposal) (passes : 
   settings : (flat_of after).settings.queues ≡ old.settings.queues
   settings = moved_settings K a.leaf a.user (use_alone (zeros K)) (use_alone q.resource) p.rows
 
-  pub held_reserved : IsCluster (record p { rows = map (applied_row K a.leaf a.user (zeros K) q.resource) p.rows; nodes = add_reservation made p.nodes })
+  pub held_reserved : AreConsistent (record p { rows = map (applied_row K a.leaf a.user (zeros K) q.resource) p.rows; nodes = add_reservation made p.nodes })
   held_reserved = record {
     tied = tied_moved old (flat_of after) a.leaf a.user (use_alone (zeros K)) (use_alone q.resource) (reserves (flat_of after) refl refl) p.rows h.tied;
     placed =

@@ -6,7 +6,12 @@ pub mod Moving
 pub mod Sizes
 pub mod Seen
 pub mod Holding
+pub mod Numbers
+pub mod Rooms
+pub mod Waiting
+pub mod Followed
 pub mod Ending
+pub mod EndRooms
 pub mod Unreserving
 pub mod Dropping
 pub mod Reporting

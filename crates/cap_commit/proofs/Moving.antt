@@ -7,6 +7,7 @@ use Rattle.cap_commit.proofs.Ties.{changed_path, changed_position, changed_row, 
 abbrev pub of_test : {K : ℕ} → Flat K → Test → Measure → ℕ
 of_test cluster test (Measure.uses k) = amount (used_by cluster test) k
 of_test cluster test Measure.active = count_of test cluster.apps.active
+of_test cluster test Measure.waiting = 0
 
 -- of what a user counts in a leaf, an old part goes and a new one comes, and nothing else is counted in another way
 pub record HasMoved {K : ℕ} (before after : Flat K) (leaf user : List ℕ) (old new : Count) : Type 0 where
@@ -19,7 +20,7 @@ pub moved_settings : (K : ℕ) (leaf user : List ℕ) (old new : Count) (rows : 
 moved_settings K leaf user old new rows = settings_stay (moved_above old new) (moved_at K user old new) (λ r. refl) (λ r. refl) leaf rows
 
 -- a leaf is under itself
-under_it : (leaf path : List ℕ) → bytes_eq path leaf ≡ true → is_under path leaf ≡ true
+pub under_it : (leaf path : List ℕ) → bytes_eq path leaf ≡ true → is_under path leaf ≡ true
 under_it leaf path e = subst (λ p. is_under path p ≡ true) ((bytes_eq-Decides path leaf).0 e) (under_itself path)
 
 module _ {K : ℕ} (before after : Flat K) (leaf user : List ℕ) (old new : Count) (h : HasMoved before after leaf user old new) where
@@ -52,6 +53,7 @@ module _ {K : ℕ} (before after : Flat K) (leaf user : List ℕ) (old new : Cou
   is_of_user : (path owner : List ℕ) (m : Measure) (cluster : Flat K) → of_test cluster (of_user_in path owner) m ≡ of_cluster cluster path owner m
   is_of_user path owner (Measure.uses k) cluster = refl
   is_of_user path owner Measure.active cluster = refl
+  is_of_user path owner Measure.waiting cluster = refl
 
   user_elsewhere : (path owner : List ℕ) (m : Measure) → bytes_eq path leaf ≡ false → of_cluster after path owner m ≡ of_cluster before path owner m
   user_elsewhere path owner m e =
@@ -156,6 +158,11 @@ one_uses : (K : ℕ) (b : Bool) (k : ℕ) → count_where b (one_app K) (Measure
 one_uses K true k = zero_counts K (Measure.uses k)
 one_uses K false k = refl
 
+-- what moves does not wait
+pub none_waits : (b : Bool) (c : Count) → count_where b c Measure.waiting ≡ 0
+none_waits true c = refl
+none_waits false c = refl
+
 one_counts : (K : ℕ) (b : Bool) → count_where b (one_app K) Measure.active ≡ one_where b
 one_counts K true = refl
 one_counts K false = refl
@@ -171,6 +178,7 @@ module _ {K : ℕ} (fewer more : Flat K) (leaf user : List ℕ) (h : HasOneMore 
       counted : (test : Test) (m : Measure) → of_test more test m + count_where (test leaf user) (zero_count K) m ≡ of_test fewer test m + count_where (test leaf user) (one_app K) m
       counted test (Measure.uses k) = let u = ap (λ v. amount v k) (h.uses test) in omega (arith, u, where_nothing K (test leaf user) (Measure.uses k), one_uses K (test leaf user) k)
       counted test Measure.active = omega (arith, h.counts test, where_nothing K (test leaf user) Measure.active, one_counts K (test leaf user))
+      counted test Measure.waiting = omega (arith, none_waits (test leaf user) (zero_count K), none_waits (test leaf user) (one_app K))
 
   pub leaves : HasMoved more fewer leaf user (one_app K) (zero_count K)
   leaves = record { counts = counted; fits = fitted; short = zeros_are K }
@@ -178,6 +186,7 @@ module _ {K : ℕ} (fewer more : Flat K) (leaf user : List ℕ) (h : HasOneMore 
       counted : (test : Test) (m : Measure) → of_test fewer test m + count_where (test leaf user) (one_app K) m ≡ of_test more test m + count_where (test leaf user) (zero_count K) m
       counted test (Measure.uses k) = let u = ap (λ v. amount v k) (h.uses test) in omega (arith, u, where_nothing K (test leaf user) (Measure.uses k), one_uses K (test leaf user) k)
       counted test Measure.active = omega (arith, h.counts test, where_nothing K (test leaf user) Measure.active, one_counts K (test leaf user))
+      counted test Measure.waiting = omega (arith, none_waits (test leaf user) (zero_count K), none_waits (test leaf user) (one_app K))
 
       fitted : (test : Test) (m : Measure) → count_where (test leaf user) (one_app K) m ≤ of_test more test m
       fitted test m = let c = counted test m in let z = where_nothing K (test leaf user) m in omega (arith, c, z)
@@ -207,6 +216,7 @@ gives {K} before after leaf user r few counts uses = record { counts = counted; 
     counted : (test : Test) (m : Measure) → of_test after test m + count_where (test leaf user) (use_alone r) m ≡ of_test before test m + count_where (test leaf user) (zero_count K) m
     counted test (Measure.uses k) = omega (arith, used test k, where_nothing K (test leaf user) (Measure.uses k))
     counted test Measure.active = omega (arith, counts test, none_active (test leaf user), where_nothing K (test leaf user) Measure.active)
+    counted test Measure.waiting = omega (arith, none_waits (test leaf user) (zero_count K), none_waits (test leaf user) (use_alone r))
 
     fitted : (test : Test) (m : Measure) → count_where (test leaf user) (use_alone r) m ≤ of_test before test m
     fitted test m = let c = counted test m in let z = where_nothing K (test leaf user) m in omega (arith, c, z)

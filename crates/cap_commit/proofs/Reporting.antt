@@ -1,11 +1,11 @@
 -- What is reported of a queue of the tree is what the flat cluster says of it.
-use Rattle.cap_commit.proofs.Prelude.{◌≡◌, ℕ, ◌≤◌, Bool, true, List, [], ◌∷◌, Some, refl, sym, ◌∙◌, ap, subst, inl, not, is_some, count_by, applications_max, Flat, App, queue_at, is_under, root_path, IsListedFromRoot, queue_report, queue_use, IsIn, each_of, item_at, path_at, Queue, Row, AreRows, IsAt, queues_of, root_use, settings_of_row, has_children, is_running, QueueReport, Parts, IsCluster, IsRowOf, flat_of, report_is}
+use Rattle.cap_commit.proofs.Prelude.{◌≡◌, ℕ, ◌≤◌, Bool, true, List, [], ◌∷◌, Some, refl, sym, ◌∙◌, ap, subst, inl, not, is_some, count_by, applications_max, Flat, App, queue_at, is_under, root_path, IsListedFromRoot, queue_report, queue_use, IsIn, each_of, item_at, path_at, Queue, Row, AreRows, IsAt, queues_of, root_use, settings_of_row, has_children, is_running, QueueReport, Parts, AreConsistent, IsRowOf, flat_of, report_is}
 use Rattle.cap_commit.proofs.RowsAt.{IsRowAt, row_at, found_row, active_few}
 
 some_same : {A : Type 0} (x y : A) → Some x ≡ Some y → x ≡ y
 some_same x y e = cc e
 
-module _ {K : ℕ} (p : Parts K) (path position : List ℕ) (tree : AreRows p.rows) (at : IsAt p.rows path position) (h : IsCluster p) where
+module _ {K : ℕ} (p : Parts K) (path position : List ℕ) (tree : AreRows p.rows) (at : IsAt p.rows path position) (h : AreConsistent p) where
   abbrev rows : List Row
   rows = p.rows
 
@@ -49,7 +49,7 @@ module _ {K : ℕ} (p : Parts K) (path position : List ℕ) (tree : AreRows p.ro
       (ap (λ (x : Queue). x.active) (sym item) ∙ tied.active ∙ ap (λ x. count_by (λ (a : App). is_under x a.leaf) cluster.apps.active) it.path_is)
 
 -- what the root uses is what the flat cluster says of `root`
-module _ {K : ℕ} (p : Parts K) (tree : AreRows p.rows) (h : IsCluster p) where
+module _ {K : ℕ} (p : Parts K) (tree : AreRows p.rows) (h : AreConsistent p) where
   of_first : (rows : List Row) → IsListedFromRoot (queues_of rows) → ((r : Row) → IsIn r rows → IsRowOf (flat_of p) r) → root_use rows ≡ queue_use (flat_of p) root_path
   of_first [] l tied = absurd l
   of_first (r ∷ rows) l tied = (tied r (inl refl)).used ∙ ap (queue_use (flat_of p)) l.0

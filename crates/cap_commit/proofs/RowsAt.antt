@@ -1,5 +1,5 @@
 -- The row of a queue, by its path and by its position.
-use Rattle.cap_commit.proofs.Prelude.{◌≡◌, ℕ, ◌≤◌, Bool, true, false, cond, List, [], ◌∷◌, Some, map, refl, sym, ◌∙◌, ap, subst, inl, inr, arith, bytes_eq, find, is_some, ◌||◌, list_any, bytes_eq-Decides, count_by-le-length, QueueRow, applications_max, App, is_under, HasDistinctPaths, IsIn, each_of, in_map, bytes_itself, HoldsOfItem, IsPosition, item_at, path_at, Row, AreRows, IsAt, queues_of, settings_of_row, active_in, at_position, Parts, IsCluster, IsRowOf, flat_of}
+use Rattle.cap_commit.proofs.Prelude.{◌≡◌, ℕ, ◌≤◌, Bool, true, false, cond, List, [], ◌∷◌, Some, map, refl, sym, ◌∙◌, ap, subst, inl, inr, arith, bytes_eq, find, is_some, ◌||◌, list_any, bytes_eq-Decides, count_by-le-length, QueueRow, applications_max, App, is_under, HasDistinctPaths, IsIn, each_of, in_map, bytes_itself, HoldsOfItem, IsPosition, item_at, path_at, Row, AreRows, IsAt, queues_of, settings_of_row, active_in, at_position, Parts, AreConsistent, IsRowOf, flat_of}
 
 -- of paths that are all others, each is found
 or_no : (a b : Bool) → a || b ≡ false → (a ≡ false) × (b ≡ false)
@@ -55,13 +55,13 @@ is_found rows path position h =
         either false f = f
 
 -- no queue has more applications than are allowed
-pub active_few : {K : ℕ} (p : Parts K) → IsCluster p → (r : Row) → IsIn r p.rows → r.item.active ≤ applications_max
+pub active_few : {K : ℕ} (p : Parts K) → AreConsistent p → (r : Row) → IsIn r p.rows → r.item.active ≤ applications_max
 active_few p h r m =
     let t = (each_of (IsRowOf (flat_of p)) p.rows h.tied r m).active in
     let few = h.few in
     omega (arith, t, few, count_by-le-length (λ (app : App). is_under r.path app.leaf) p.apps.table.active)
 
-pub all_few : {K : ℕ} (p : Parts K) → IsCluster p → active_in p.rows ≤ applications_max
+pub all_few : {K : ℕ} (p : Parts K) → AreConsistent p → active_in p.rows ≤ applications_max
 all_few p h = by p.rows (λ r m. active_few p h r m)
   where
     by : (rows : List Row) → ((r : Row) → IsIn r rows → r.item.active ≤ applications_max) → active_in rows ≤ applications_max

@@ -1,7 +1,7 @@
 -- What the sight of a cluster shows of applications, nodes and reservations is what its tables have.
-use Rattle.cap_commit.proofs.Prelude.{◌≡◌, ℕ, ◌-◌, Bool, true, false, cond, List, length, Some, None, refl, sym, ◌∙◌, ap, subst, arith, ◌↔◌, IsTrue, Option, IsSome, is_some, option_map, option_and_then, ◌==◌, ◌&&◌, find, filter, map, nat_le, nat_lt, count_by, nat_tests, Fits, less, holds_of, fits, Ask, IsRising, Flat, App, ClusterNode, Reservation, app_at, node_at, is_for, reservation_on, held_on, AppSight, NodeSight, sight_of, app_sight, node_sight, seen_app, seen_node, still_wanted, NodeProposal, is_grant, is_wanted, node_reservation, proposed_ask, fits_free, fits_total, IsIn, found, each_of, in_filter, find_mapped_at, found_by_number, rising_kept, sum_by_map, value_of, not_none, same_test, amounts_fit, fits_amounts, seen_is, nodes_on, on_nodes, Load, IsLoadIn, free_on, AreReserved, fits_its_node, Parts, IsCluster, flat_of, load_sight, own_reservation, its_node_there}
+use Rattle.cap_commit.proofs.Prelude.{◌≡◌, ℕ, ◌-◌, Bool, true, false, cond, List, length, Some, None, refl, sym, ◌∙◌, ap, subst, arith, ◌↔◌, IsTrue, Option, IsSome, is_some, option_map, option_and_then, ◌==◌, ◌&&◌, find, filter, map, nat_le, nat_lt, count_by, nat_tests, Fits, less, holds_of, fits, Ask, IsRising, Flat, App, ClusterNode, Reservation, app_at, node_at, is_for, reservation_on, held_on, AppSight, NodeSight, sight_of, app_sight, node_sight, seen_app, seen_node, still_wanted, NodeProposal, is_grant, is_wanted, node_reservation, proposed_ask, fits_free, fits_total, IsIn, found, each_of, in_filter, find_mapped_at, found_by_number, rising_kept, sum_by_map, value_of, not_none, same_test, amounts_fit, fits_amounts, seen_is, nodes_on, on_nodes, Load, IsLoadIn, free_on, AreReserved, fits_its_node, Parts, AreConsistent, flat_of, load_sight, own_reservation, its_node_there}
 
-module _ {K : ℕ} (p : Parts K) (h : IsCluster p) where
+module _ {K : ℕ} (p : Parts K) (h : AreConsistent p) where
   abbrev cluster : Flat K
   cluster = flat_of p
 

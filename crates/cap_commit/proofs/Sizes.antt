@@ -27,7 +27,7 @@ module _ (u v w : ℕ → ℕ) (r : Rounds u v w) (n : ℕ) (few : n ≤ resourc
   shares = u (0 + n * 16)
 
   abbrev queue : ℕ
-  queue = u (u (fields + shares) + 112)
+  queue = u (u (u (u (fields + shares) + 112) + 24) + 8)
 
   amounts_few : amounts ≤ 9000
   amounts_few = let a = r.eights (0 + n * 8) in let f : n ≤ 1000 = few in omega (arith, a, f)
@@ -54,8 +54,10 @@ module _ (u v w : ℕ → ℕ) (r : Rounds u v w) (n : ℕ) (few : n ≤ resourc
       let b = r.eights (0 + n * 16) in
       let c = r.eights (fields + shares) in
       let d = r.eights (u (fields + shares) + 112) in
+      let e = r.eights (u (u (fields + shares) + 112) + 24) in
+      let g = r.eights (u (u (u (fields + shares) + 112) + 24) + 8) in
       let f : n ≤ 1000 = few in
-      omega (arith, a, b, c, d, f)
+      omega (arith, a, b, c, d, e, f, g)
 
   queue_is_small : queue < 9223372036854775808
   queue_is_small = let a = queue_few in omega (arith, a)

@@ -15,6 +15,7 @@ unused_tied {K} cluster rows none live reserved a = of_each (IsRowOf cluster) ro
     nothing : (path user : List ℕ) (m : Measure) → of_cluster cluster path user m ≡ 0
     nothing path user (Measure.uses k) = ap (λ v. amount v k) (idle_use cluster (of_user_in path user) live reserved) ∙ amount-zeros K k
     nothing path user Measure.active = ap (count_of (of_user_in path user)) none
+    nothing path user Measure.waiting = refl
 
     tied : (r : Row) → IsUnused K r.item → IsRowOf cluster r
     tied r u = record {
@@ -32,6 +33,7 @@ module _ {K : ℕ} (old new : Flat K) where
   same_of : CountsSame old new → (path user : List ℕ) (m : Measure) → of_cluster new path user m ≡ of_cluster old path user m
   same_of s path user (Measure.uses k) = ap (λ v. amount v k) (s.uses (of_user_in path user))
   same_of s path user Measure.active = s.counts (of_user_in path user)
+  same_of s path user Measure.waiting = refl
 
   row_stays : CountsSame old new → (r : Row) → IsRowOf old r → IsRowOf new r
   row_stays s r h = record {

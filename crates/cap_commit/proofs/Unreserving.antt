@@ -1,5 +1,5 @@
 -- What a cluster keeps where a reservation is dropped.
-use Rattle.cap_commit.proofs.Prelude.{◌≡◌, ℕ, zero, suc, ◌<◌, ◌≤◌, Bool, true, false, cond, List, [], ◌∷◌, length, map, Some, None, get_or, refl, sym, ◌∙◌, ap, subst, inl, inr, arith, IsSome, is_some, ◌==◌, find, filter, not, remove, sum_by-remove, bytes_eq-Decides, amount, Settings, Flat, App, NodeTable, Reservation, with_reserved, IsIn, found, each_of, of_each, counts, counted, use_amount, Measure, MayGive, zero_count, use_alone, count_where, Row, lowered_row, queues_of, user_row_at, position_of, AreApart, is_elsewhere, others_elsewhere, Parts, IsCluster, IsInLeaf, flat_of, of_cluster, count_positive, part_reserved, part_removed}
+use Rattle.cap_commit.proofs.Prelude.{◌≡◌, ℕ, zero, suc, ◌<◌, ◌≤◌, Bool, true, false, cond, List, [], ◌∷◌, length, map, Some, None, get_or, refl, sym, ◌∙◌, ap, subst, inl, inr, arith, IsSome, is_some, ◌==◌, find, filter, not, remove, sum_by-remove, bytes_eq-Decides, amount, Settings, Flat, App, NodeTable, Reservation, with_reserved, IsIn, found, each_of, of_each, counts, counted, use_amount, Measure, MayGive, zero_count, use_alone, count_where, Row, lowered_row, queues_of, user_row_at, position_of, AreApart, is_elsewhere, others_elsewhere, Parts, AreConsistent, IsInLeaf, flat_of, of_cluster, count_positive, part_reserved, part_removed}
 use Rattle.cap_commit.proofs.Holding.{leaf_same, still_placed}
 use Rattle.cap_commit.proofs.Moving.{HasMoved, gives, may_give, moved_settings, moved_stays, tied_moved}
 use Rattle.cap_commit.proofs.Owning.{IsReservedFor, owned_stands}
@@ -45,7 +45,7 @@ place_of n (x ∷ rs) r a e = by (x.node == n) refl e (place_of n rs r a.1)
           gone = ap (λ xs. x ∷ xs) later.gone ∙ sym (ap (λ b. cond (not b) (x ∷ filter (is_elsewhere n) rs) (filter (is_elsewhere n) rs)) h);
         }
 
-module _ {K : ℕ} (p : Parts K) (h : IsCluster p) (i : ℕ) (r : Reservation) (below : i < length p.nodes.reserved) (at : r ≡ get_or p.nodes.reserved i r) where
+module _ {K : ℕ} (p : Parts K) (h : AreConsistent p) (i : ℕ) (r : Reservation) (below : i < length p.nodes.reserved) (at : r ≡ get_or p.nodes.reserved i r) where
   abbrev old : Flat K
   old = flat_of p
 
@@ -90,8 +90,8 @@ module _ {K : ℕ} (p : Parts K) (h : IsCluster p) (i : ℕ) (r : Reservation) (
         may_give old dropped a.leaf a.user (use_alone r.resource) (zero_count K) (less_used old.settings) some_active p.rows h.tied (position_of a.number p.apps.accounts) row.row row.member row.path_is row.item_is
 
     -- after it was dropped
-    pub held_dropped : (nodes' : NodeTable) → nodes' ≡ record p.nodes { reserved = remove p.nodes.reserved i } → IsCluster (record p { rows = map (lowered_row K a.leaf a.user r.resource) p.rows; nodes = nodes' })
-    held_dropped nodes' is = subst (λ (t : NodeTable). IsCluster (record p { rows = map (lowered_row K a.leaf a.user r.resource) p.rows; nodes = t })) (sym is) here
+    pub held_dropped : (nodes' : NodeTable) → nodes' ≡ record p.nodes { reserved = remove p.nodes.reserved i } → AreConsistent (record p { rows = map (lowered_row K a.leaf a.user r.resource) p.rows; nodes = nodes' })
+    held_dropped nodes' is = subst (λ (t : NodeTable). AreConsistent (record p { rows = map (lowered_row K a.leaf a.user r.resource) p.rows; nodes = t })) (sym is) here
       where
         q : Parts K
         q = record p { rows = map (lowered_row K a.leaf a.user r.resource) p.rows; nodes = record p.nodes { reserved = remove p.nodes.reserved i } }
@@ -99,7 +99,7 @@ module _ {K : ℕ} (p : Parts K) (h : IsCluster p) (i : ℕ) (r : Reservation) (
         settings : (flat_of q).settings.queues ≡ old.settings.queues
         settings = moved_settings K a.leaf a.user (use_alone r.resource) (zero_count K) p.rows
 
-        here : IsCluster q
+        here : AreConsistent q
         here = record {
           tied = tied_moved old (flat_of q) a.leaf a.user (use_alone r.resource) (zero_count K) (less_used (flat_of q).settings) p.rows h.tied;
           placed =

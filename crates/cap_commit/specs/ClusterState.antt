@@ -1,5 +1,5 @@
 -- What a cluster keeps: its parts, the flat cluster that they are, and what they have to do with each other.
-use Rattle.std.specs.Prelude.{◌≡◌, ℕ, ◌≤◌, ◌&&◌, ◌==◌, IsSome, List, length, count_by, bytes_eq}
+use Rattle.std.specs.Prelude.{◌≡◌, ℕ, ◌≤◌, ◌&&◌, ◌==◌, IsSome, Bool, List, filter, length, map, count_by, bytes_eq}
 use Rattle.std.specs.List.{All}
 use Rattle.cap_laws.specs.Reservations.{AreReserved}
 use Rattle.cap_vector.specs.Vector.{amount}
@@ -13,7 +13,7 @@ use Rattle.cap_tree.specs.Measure.{Measure}
 use Rattle.cap_tree.specs.Queue.{of_user}
 use Rattle.cap_tree.specs.Rows.{Row, IsAt, queues_of}
 use Rattle.cap_asks.specs.Accounts.{Account}
-use Rattle.cap_asks.specs.Apps.{HeldApps, live_of, position_of}
+use Rattle.cap_asks.specs.Apps.{HeldApps, is_waiting, live_of, position_of}
 use Rattle.cap_commit.specs.declared.limits.Limits.{Limits}
 
 -- a cluster as contracts see it: the flat cluster, and beside it the rows of the tree and the accounts of the applications
@@ -28,6 +28,19 @@ pub record Parts (K : ℕ) : Type 0 where
   pub limits : Limits K
   pub apps : HeldApps
   pub nodes : NodeTable
+
+-- the numbers of applications that pass a test, in their order
+abbrev pub numbers_of : (App → Bool) → List App → List ℕ
+numbers_of test apps = map (λ app. app.number) (filter test apps)
+
+-- whether an application waits, in a leaf that passes a test
+abbrev pub waits_where : (List ℕ → Bool) → App → Bool
+waits_where leaf app = leaf app.leaf && is_waiting app
+
+-- a queue of the tree has the numbers of its own applications that wait, in order, and counts those that wait in it and under it
+pub record IsWaitedAt (apps : List App) (r : Row) : Type 0 where
+  pub numbers : r.item.waiting ≡ numbers_of (waits_where (bytes_eq r.path)) apps
+  pub count : r.item.waits ≡ count_by (waits_where (is_under r.path)) apps
 
 module _ {K : ℕ} where
   -- the flat cluster of these parts
@@ -50,6 +63,7 @@ module _ {K : ℕ} where
   abbrev pub of_cluster : Flat K → List ℕ → List ℕ → Measure → ℕ
   of_cluster cluster leaf user (Measure.uses k) = amount (user_use cluster leaf user) k
   of_cluster cluster leaf user Measure.active = count_by (λ app. bytes_eq leaf app.leaf && bytes_eq user app.user) cluster.apps.active
+  of_cluster cluster leaf user Measure.waiting = 0
 
   -- a queue of the tree keeps what the flat cluster counts: how many applications are active in it and under it, what they use,
   -- and both for each user of its own
@@ -70,7 +84,7 @@ module _ {K : ℕ} where
   -- each row keeps what the flat cluster counts; each application is in a leaf, whose position it knows, and knows how many of its
   -- containers are live; each live container and each reservation is an active application's; reservations are on different nodes,
   -- each on one that has as much; the numbers of containers are distinct; no more than allowed of each
-  pub record IsCluster (p : Parts K) : Type 0 where
+  pub record AreConsistent (p : Parts K) : Type 0 where
     pub tied : All (IsRowOf (flat_of p)) p.rows
     pub placed : All (IsInLeaf p) p.apps.table.active
     pub counted : (n : ℕ) → live_of n p.apps.accounts ≡ live_for n (flat_of p)
@@ -82,3 +96,8 @@ module _ {K : ℕ} where
     pub few : length p.apps.table.active ≤ applications_max
     pub few_live : length p.nodes.live ≤ live_max
     pub resources : K ≤ resources_max
+
+  -- and the tree knows which applications wait
+  pub record IsCluster (p : Parts K) : Type 0 where
+    pub consistent : AreConsistent p
+    pub waiting : All (IsWaitedAt p.apps.table.active) p.rows

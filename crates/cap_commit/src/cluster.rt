@@ -23,11 +23,12 @@ ghost use Rattle.cap_tree.specs.Spot.{IsPosition, path_at};
 ghost use Rattle.cap_asks.specs.Apps.{KeepsNumbers, ask_room, HasRooms, UsesRoom, position_of};
 ghost use Rattle.cap_commit.specs.ClusterState.{IsRowOf};
 ghost use Rattle.cap_laws.specs.Reservations.{kept_by_ask};
-ghost use Rattle.cap_commit.specs.Owners.{owns, containers_owned, containers_named};
+ghost use Rattle.cap_commit.specs.Owners.{TakesEndRoom, TakesLeaver, owns, containers_owned, containers_named};
 
 use crate::limits::{Limits, limits_of};
 use crate::owner::Owner;
 use crate::queue_report::report_of;
+use crate::following::{follow, follow_app, waits};
 use cap_asks::{Apps, Position};
 use cap_model::{
     Ask, Cause, Config, End, HeartbeatReply, NoMemory, PathText, QueueReport, Reported, ShortText,
@@ -229,10 +230,13 @@ impl<const K: usize> Cluster<K> {
     /// The master of an active application has reported.
     pub fn register(&mut self, number: u64)
         ensures flat { self.new.flat ≡ after_register_master self.old.flat number }
-        ensures rows { self.new.rows ≡ self.old.rows }
         ensures room { UsesRoom number 0 0 0 self.old.accounts self.new.accounts }
     {
+        self.apps.numbers_rise();
+        let waited = waits(&self.apps, number);
         self.apps.register(number);
+        let tree = &mut *self.tree;
+        follow_app(tree, &self.apps, number, waited);
     }
 
     /// Makes room for so many more asks, grants and ends of an active application, so that it takes them with no memory. `NoMemory`
@@ -270,7 +274,11 @@ impl<const K: usize> Cluster<K> {
         );
         let ask = ask.with_resource(&resource);
         self.drop_unwanted(number, &ask);
+        self.apps.numbers_rise();
+        let waited = waits(&self.apps, number);
         self.apps.put_ask(number, &ask);
+        let tree = &mut *self.tree;
+        follow_app(tree, &self.apps, number, waited);
     }
 
     /// Drops the reservations of its key that an ask of an application, already rounded, does not leave.
@@ -308,6 +316,7 @@ impl<const K: usize> Cluster<K> {
         requires { IsSome (app_at self.old.flat number) }
         ensures ended { result ≡ length (containers_of self.old.flat.nodes number) }
         ensures finished { self.new.flat ≡ after_finish_master self.old.flat number }
+        ensures room { TakesLeaver number self.old.accounts self.new.accounts }
     {
         let ended = self.end_all(Owner::Application(number), Cause::Released);
         self.unreserve_app(number);
@@ -316,6 +325,7 @@ impl<const K: usize> Cluster<K> {
             unreachable!()
         };
         let tree = &mut *self.tree;
+        follow(tree, app.position(), number, app.is_waiting(), false);
         tree.leave(app.position(), app.user());
         self.apps.finish(number);
         ended
@@ -328,6 +338,7 @@ impl<const K: usize> Cluster<K> {
         ensures ended { self.new.flat ≡
             after_ends cause (containers_owned owner self.old.flat) self.old.flat }
         ensures none { containers_owned owner self.new.flat ≡ [] }
+        ensures room { TakesEndRoom self.old.accounts self.new.accounts }
     {
         let mut ended = 0;
         while let Some(container) = self.first_of(owner) {
@@ -346,6 +357,7 @@ impl<const K: usize> Cluster<K> {
             after_ends cause (containers_named owner numbers.now self.old.flat) self.old.flat }
         ensures ignored { result + length (containers_named owner numbers.now self.old.flat)
             ≡ length numbers.now }
+        ensures room { TakesEndRoom self.old.accounts self.new.accounts }
     {
         let mut ignored = 0;
         for number in numbers {
@@ -375,7 +387,8 @@ impl<const K: usize> Cluster<K> {
     pub fn end(&mut self, container: &Container<K>, cause: Cause)
         requires { find (λ c. c.number == container.now.number) self.old.flat.nodes.live
             ≡ Some container.now }
-        ensures { self.new.flat ≡ after_ends cause (container.now ∷ []) self.old.flat }
+        ensures ended { self.new.flat ≡ after_ends cause (container.now ∷ []) self.old.flat }
+        ensures room { UsesRoom container.now.app 0 0 1 self.old.accounts self.new.accounts }
     {
         let Some(app) = self.apps.app(container.app()) else {
             unreachable!()

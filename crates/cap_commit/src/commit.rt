@@ -11,6 +11,7 @@ ghost use Rattle.cap_commit.specs.Making.{KeepsIfRejected, event_of_made};
 
 use crate::cluster::Cluster;
 use crate::made::Made;
+use crate::following::follow_app;
 use cap_model::{Container, Grant, NoMemory, Proposal, Reservation, Verdict};
 use cap_vector::Resource;
 
@@ -62,9 +63,13 @@ impl<const K: usize> Cluster<K> {
             unreachable!()
         };
         let tree = &mut *self.tree;
+        let waited = owner.is_waiting();
         tree.apply(owner.position(), owner.user(), &old, &resource);
+        self.apps.numbers_rise();
         self.apps.take_one(app, &key);
         self.apps.add_grant(app, &grant);
+        let tree = &mut *self.tree;
+        follow_app(tree, &self.apps, app, waited);
         Ok(Container {
             number,
             app,

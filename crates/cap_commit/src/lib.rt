@@ -4,6 +4,7 @@
 mod admission;
 mod cluster;
 mod commit;
+mod following;
 mod limits;
 mod made;
 mod owner;

@@ -20,7 +20,7 @@ pub record SeenQueue : Type 0 where
 
 -- the queue that was copied, the first of these
 abbrev pub queue_in : List (Queue × ℕ) → Queue
-queue_in [] = record { name = []; guaranteed = []; maximum = None; factor = 0; running = false; used = []; active = 0; users = finite.empty }
+queue_in [] = record { name = []; guaranteed = []; maximum = None; factor = 0; running = false; used = []; active = 0; users = finite.empty; waiting = []; waits = 0 }
 queue_in (source ∷ sources) = source.0
 
 -- what is kept of a queue is what it holds, with the shares of its use

@@ -12,7 +12,7 @@ use std::alloc::Allocator;
 impl<const K: usize, B: Allocator + Copy> Farm<K> for Snapshot<K, B> {
     ghost use Rattle.cap_copy.specs.Snapshot.{app_nth, sight_in};
 
-    type App = u32;
+    type App = u64;
 
     ghost sight = { sight_in K };
 
@@ -66,37 +66,37 @@ impl<const K: usize, B: Allocator + Copy> Farm<K> for Snapshot<K, B> {
         self.nodes[index].reservation()
     }
 
-    fn first_app(&self) -> Option<u32> {
+    fn first_app(&self) -> Option<u64> {
         self.tree.first_served()
     }
 
-    fn next_app(&self, last: u32) -> Option<u32> {
+    fn next_app(&self, last: u64) -> Option<u64> {
         let app = &self.apps[last as usize];
         self.tree.next_served(last, app.position().as_slice())
     }
 
-    fn app_of(&self, number: u64) -> Option<u32> {
+    fn app_of(&self, number: u64) -> Option<u64> {
         let Some(index) = index_of(&self.apps, number) else {
             return None;
         };
-        Some(index as u32)
+        Some(index as u64)
     }
 
-    fn app_number(&self, of: u32) -> u64 {
+    fn app_number(&self, of: u64) -> u64 {
         self.apps[of as usize].number()
     }
 
-    fn ask_count(&self, of: u32) -> usize {
+    fn ask_count(&self, of: u64) -> usize {
         let range = self.apps[of as usize].range();
         range.end - range.start
     }
 
-    fn ask(&self, of: u32, index: usize) -> &Ask<K> {
+    fn ask(&self, of: u64, index: usize) -> &Ask<K> {
         let range = self.apps[of as usize].range();
         self.asks[range.start + index].ask()
     }
 
-    fn ask_of(&self, of: u32, key: &Key) -> Option<&Ask<K>> {
+    fn ask_of(&self, of: u64, key: &Key) -> Option<&Ask<K>> {
         let range = self.apps[of as usize].range();
         for index in range.start..range.end {
             let ask = self.asks[index].ask();
@@ -107,12 +107,12 @@ impl<const K: usize, B: Allocator + Copy> Farm<K> for Snapshot<K, B> {
         None
     }
 
-    fn wanted(&self, of: u32, index: usize) -> u32 {
+    fn wanted(&self, of: u64, index: usize) -> u32 {
         let range = self.apps[of as usize].range();
         self.asks[range.start + index].wanted()
     }
 
-    fn stays_within(&self, of: u32, old: &Resource<K>, new: &Resource<K>) -> bool {
+    fn stays_within(&self, of: u64, old: &Resource<K>, new: &Resource<K>) -> bool {
         let app = &self.apps[of as usize];
         self.tree
             .stays_within(app.position().as_slice(), app.used(), old, new)

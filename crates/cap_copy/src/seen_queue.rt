@@ -126,8 +126,8 @@ impl<const K: usize, B: Allocator> Served for SeenQueue<K, B> {
 impl<const K: usize, B: Allocator> Marked for SeenQueue<K, B> {
     ghost mark = { λ q. q.first };
 
-    fn mark(&self) -> u32 {
-        self.first
+    fn mark(&self) -> u64 {
+        self.first as u64
     }
 
     fn waits(&self) -> bool {

@@ -107,7 +107,7 @@ impl<const K: usize, B: Allocator + Copy> SeenTree<K, B> {
     /// part of its own guarantee, by its dominant share first, and of two that are as full the lesser name in byte order. A queue is
     /// before those under it, and of two that wait at one queue the earlier index. None where nothing waits. It goes level by level
     /// to the least full child in which something waits, and takes no memory.
-    pub fn first_served(&self) -> Option<u32>
+    pub fn first_served(&self) -> Option<u64>
         ensures next { IsNextServed self.now.rows self.now.waiting None result }
     {
         if !self.root.top().waits() {
@@ -119,14 +119,14 @@ impl<const K: usize, B: Allocator + Copy> SeenTree<K, B> {
     /// The index that is served next, in the order of `first_served`, after one that waits at a position. None where none is left.
     /// It looks at the queues on the way to the position, for each at the sibling that is served next, and goes on from there as
     /// `first_served` does. It takes no memory.
-    pub fn next_served(&self, index: u32, position: &[u32]) -> Option<u32>
+    pub fn next_served(&self, index: u64, position: &[u32]) -> Option<u64>
         requires { slice_get self.now.waiting index ≡ Some position.now }
         ensures next { IsNextServed self.now.rows self.now.waiting (Some index) result }
     {
         self.root.places_differ();
         let link = self.links[index as usize];
         if link != 0 {
-            return Some(link - 1);
+            return Some(link as u64 - 1);
         }
         match self.root.next_waiting(position) {
             None => None,

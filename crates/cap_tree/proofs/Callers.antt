@@ -43,11 +43,13 @@ pub leaving_part : (K : ℕ) (row : Option Count) → MayLeave row → IsPart (o
 leaving_part K None h m = absurd h
 leaving_part K (Some u) h (Measure.uses k) = omega (arith, amount-zeros K k)
 leaving_part K (Some u) h Measure.active = h.0
+leaving_part K (Some u) h Measure.waiting = omega arith
 
 pub giving_part : (K : ℕ) (r : List ℕ) (row : Option Count) → MayGive r row → IsPart (use_alone r) (count_in K row)
 giving_part K r None h m = absurd h
 giving_part K r (Some u) h (Measure.uses k) = h k
 giving_part K r (Some u) h Measure.active = omega arith
+giving_part K r (Some u) h Measure.waiting = omega arith
 
 -- there is room at the root for one more application, and wherever nothing new comes
 
@@ -55,6 +57,7 @@ pub room_entering : (K : ℕ) (rows : List Row) → active_in rows < number_end 
 room_entering K rows h (Measure.uses k) = inl (omega arith)
 room_entering K [] h Measure.active = inr (omega arith)
 room_entering K (r ∷ rows) h Measure.active = inr (omega (arith, h))
+room_entering K rows h Measure.waiting = inl (omega arith)
 
 pub room_falling : (K : ℕ) (old : Count) (rows : List Row) → HasRoomAtRoot old (zero_count K) rows
 room_falling K old rows m = inl (omega (arith, zero_counts K m))

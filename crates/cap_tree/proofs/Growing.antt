@@ -232,9 +232,12 @@ grow K rows rows' q todo levels item w lv sh un a =
 pub unused_stored : (K : ℕ) (q : Queue) (m : Measure) → IsUnused K q → of_queue q m ≡ 0
 unused_stored K q (Measure.uses k) u = ap (λ v. amount v k) u.used ∙ amount-zeros K k
 unused_stored K q Measure.active u = u.active
+unused_stored K q Measure.waiting u = u.waits
 
 pub unused_own : (K : ℕ) (q : Queue) (m : Measure) → IsUnused K q → of_users q m ≡ 0
-unused_own K q m u = ap (sum_of (λ c. of_count c m)) u.users ∙ sum-no_users (λ c. of_count c m)
+unused_own K q (Measure.uses k) u = ap (sum_of (λ c. of_count c (Measure.uses k))) u.users ∙ sum-no_users (λ c. of_count c (Measure.uses k))
+unused_own K q Measure.active u = ap (sum_of (λ c. of_count c Measure.active)) u.users ∙ sum-no_users (λ c. of_count c Measure.active)
+unused_own K q Measure.waiting u = ap length u.waiting
 
 -- so many levels down there is a dot
 pub has_level : (before : List ℕ) (q : QueueRow) (todo : List QueueRow) → IsListed before (q ∷ todo) → 1 ≤ depth q.path

@@ -1,6 +1,7 @@
 pub mod Adding
 pub mod Callers
 pub mod Copies
+pub mod Counted
 pub mod Counting
 pub mod Finding
 pub mod Finds
@@ -10,11 +11,13 @@ pub mod Looking
 pub mod Names
 pub mod OneUser
 pub mod Orders
+pub mod Numbers
 mod Prelude
 pub mod Rooms
 pub mod RowPaths
 pub mod RowSettings
 pub mod SamePaths
+pub mod NextWaiters
 pub mod Service
 pub mod ServiceRows
 pub mod Sizes
@@ -22,5 +25,6 @@ pub mod Spots
 pub mod Trees
 pub mod UserCopies
 pub mod Users
+pub mod Waits
 pub mod Walks
 pub mod Within

@@ -30,6 +30,7 @@ pub room_applying : (old new : List ℕ) (rows : List Row) → IsWithin sum_max 
 room_applying old new [] h (Measure.uses k) = inr (omega (arith, h k, amount-exchanged old new [] k))
 room_applying old new (r ∷ rows) h (Measure.uses k) = inr (omega (arith, h k, amount-exchanged old new r.item.used k))
 room_applying old new rows h Measure.active = inl (omega arith)
+room_applying old new rows h Measure.waiting = inl (omega arith)
 
 -- what would be passed, by what is on the way to the position
 

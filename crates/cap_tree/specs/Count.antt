@@ -11,6 +11,7 @@ pub record Count : Type 0 where
 abbrev pub of_count : Count → Measure → ℕ
 of_count c (Measure.uses k) = amount c.used k
 of_count c Measure.active = c.active
+of_count c Measure.waiting = 0
 
 -- nothing of K resources, one active application that uses nothing, and use alone
 abbrev pub zero_count : ℕ → Count

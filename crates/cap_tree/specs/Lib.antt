@@ -1,9 +1,12 @@
 pub mod Branch
 pub mod Count
+pub mod Counted
 pub mod Finding
 pub mod Growth
 pub mod Limits
 pub mod Measure
+pub mod NumberLaws
+pub mod Numbers
 pub mod Paths
 pub mod Queue
 pub mod QueueLaws
@@ -12,4 +15,5 @@ pub mod Service
 pub mod ServiceLaws
 pub mod Spot
 pub mod UserLaws
+pub mod Waiting
 pub mod Walk

@@ -11,9 +11,10 @@ use Rattle.cap_tree.specs.declared.found.Found.{Found}
 use Rattle.cap_tree.specs.declared.found.Found.TheVariants.{Leaf, Parent, Missing}
 use Rattle.cap_tree.specs.Spot.{Spot, first, first_of, leads_to, item_at, path_at, IsPosition}
 use Rattle.cap_tree.specs.Branch.{root_count}
+use Rattle.cap_tree.specs.Counted.{AreWaiting}
 use Rattle.cap_tree.specs.Measure.{MayChange}
 use Rattle.cap_tree.specs.Count.{Count, of_count, zero_count, one_app, use_alone}
-use Rattle.cap_tree.specs.Queue.{Queue, of_queue, user_row, moved_above, moved_at, with_running, with_settings}
+use Rattle.cap_tree.specs.Queue.{Queue, of_queue, user_row, moved_above, moved_at, served_above, waiting_above, waiting_less, waiting_more, with_running, with_settings}
 use Rattle.cap_base.specs.Texts.{dot}
 
 -- a row: the queue's position, its dotted path, and what it holds
@@ -68,6 +69,13 @@ lowered_row K path user r = moved_row K path user (use_alone r) (zero_count K)
 -- after the use of a user there has changed from old to new
 abbrev pub applied_row : ℕ → List ℕ → List ℕ → List ℕ → List ℕ → Row → Row
 applied_row K path user old new = moved_row K path user (use_alone old) (use_alone new)
+
+-- after an application of the leaf of that path waits there, and after it does so no more
+abbrev pub waiting_row : ℕ → List ℕ → Row → Row
+waiting_row n path = changed_at waiting_above (waiting_more n) path
+
+abbrev pub served_row : ℕ → List ℕ → Row → Row
+served_row n path = changed_at served_above (waiting_less n) path
 
 -- with the queue's own state
 abbrev pub with_state : List ℕ → Bool → Row → Row
@@ -132,3 +140,4 @@ FindsQueue path rows Missing = find (λ q. bytes_eq q.path path) (queues_of rows
 pub record IsQueueTree (rows : List Row) (start : SmallVec ℕ) : Type 0 where
   pub rows_are : AreRows rows
   pub start_is : IsStart start
+  pub waiting_are : AreWaiting rows

@@ -124,7 +124,7 @@ pub trait Marked: Served {
     ghost mark: { Self → ℕ };
 
     /// The mark, which is 0 where nothing waits at it.
-    fn mark(&self) -> u32
+    fn mark(&self) -> u64
         ensures { result ≡ mark self.now };
 
     /// Whether something waits at it or below it.
@@ -529,7 +529,7 @@ impl<T: TreeItem + Drop, A: Allocator + Copy> Branch<T, A> {
     }
 
     /// The mark that is served first: its own item's, or else the first in the first child in which something waits.
-    pub fn first_waiting(&self) -> u32
+    pub fn first_waiting(&self) -> u64
     where
         T: Marked,
         requires once { HasPathsOnce self.now }
@@ -548,7 +548,7 @@ impl<T: TreeItem + Drop, A: Allocator + Copy> Branch<T, A> {
     }
 
     /// The mark that is served first of those in the children after that one. None where nothing waits in these.
-    fn first_below(&self, after: Option<u32>) -> Option<u32>
+    fn first_below(&self, after: Option<u32>) -> Option<u64>
     where
         T: Marked,
         requires once { HasPathsOnce self.now }
@@ -566,7 +566,7 @@ impl<T: TreeItem + Drop, A: Allocator + Copy> Branch<T, A> {
     }
 
     /// The mark that is served next after the one of the item that the steps lead to. None where none is left.
-    pub fn next_waiting(&self, after: &[u32]) -> Option<u32>
+    pub fn next_waiting(&self, after: &[u32]) -> Option<u64>
     where
         T: Marked,
         requires once { HasPathsOnce self.now }

@@ -16,10 +16,10 @@ pub(crate) struct Move<'a, const K: usize> {
 }
 
 impl<'a, const K: usize, A: Allocator> Change<Queue<K, A>> for Move<'a, K> {
-    ghost use Rattle.std.specs.Prelude.{◌≡◌, None, refl};
+    ghost use Rattle.std.specs.Prelude.{refl};
     ghost use Rattle.cap_tree.specs.Count.{IsPart, of_count};
-    ghost use Rattle.cap_tree.specs.Queue.{count_in, moved_above, moved_at, queue_count, user_row};
-    ghost use Rattle.cap_tree.specs.QueueLaws.{moved_counts, moved_sum};
+    ghost use Rattle.cap_tree.specs.Queue.{MayGrow, count_in, moved_above, moved_at, queue_count, user_row};
+    ghost use Rattle.cap_tree.specs.QueueLaws.{moved_above_own, moved_at_queue, moved_own, moved_queue, own_fits};
 
     ghost old = { λ c. of_count c.old };
 
@@ -31,7 +31,7 @@ impl<'a, const K: usize, A: Allocator> Change<Queue<K, A>> for Move<'a, K> {
 
     ghost can = { λ c q. IsPart c.old (count_in K (user_row c.user.now q.users)) };
 
-    ghost grows = { λ c q. user_row c.user.now q.users ≡ None };
+    ghost grows = { λ c. MayGrow c.user.now c.old c.new };
 
     fn change_above(&self, item: &mut Queue<K, A>) {
         item.move_below(&self.old, &self.new);
@@ -45,15 +45,15 @@ impl<'a, const K: usize, A: Allocator> Change<Queue<K, A>> for Move<'a, K> {
 
     ghost name_at = { λ c x. refl };
 
-    ghost stored_above = { λ c x. moved_counts c.old c.new (queue_count x) };
+    ghost stored_above = { λ c x. moved_queue c.old c.new x };
 
-    ghost stored_at = { λ c x. moved_counts c.old c.new (queue_count x) };
+    ghost stored_at = { λ c x. moved_at_queue K c.user.now c.old c.new x };
 
-    ghost own_above = { λ c x m. refl };
+    ghost own_above = { λ c x. moved_above_own c.old c.new x };
 
-    ghost own_at = { λ c x m h. (moved_sum K c.user.now c.old c.new x.users m h).sum };
+    ghost own_at = { λ c x m h. moved_own K c.user.now c.old c.new x m h };
 
-    ghost old_fits = { λ c x m h. (moved_sum K c.user.now c.old c.new x.users m h).fits };
+    ghost old_fits = { λ c x m h. own_fits K c.user.now c.old c.new x m h };
 }
 
 /// A queue's own state is set.
@@ -65,7 +65,7 @@ pub(crate) struct SetState {
 impl<const K: usize, A: Allocator> Change<Queue<K, A>> for SetState {
     ghost use Rattle.std.specs.Prelude.{refl};
     ghost use Rattle.cap_tree.specs.Queue.{with_running, of_queue, of_users};
-    ghost use Rattle.cap_tree.specs.QueueLaws.{none_fits, same_after, same_number};
+    ghost use Rattle.cap_tree.specs.QueueLaws.{none_fits, same_after, same_number, same_running_own};
 
     ghost old = { λ c m. 0 };
 
@@ -96,7 +96,7 @@ impl<const K: usize, A: Allocator> Change<Queue<K, A>> for SetState {
 
     ghost own_above = { λ c x m. refl };
 
-    ghost own_at = { λ c x m h. same_number (of_users x m) };
+    ghost own_at = { λ c x m h. same_running_own c.running x m };
 
     ghost old_fits = { λ c x m h. none_fits (of_users x m) };
 }
@@ -110,7 +110,7 @@ pub(crate) struct SetSettings<'a, const K: usize> {
 impl<'a, const K: usize, A: Allocator> Change<Queue<K, A>> for SetSettings<'a, K> {
     ghost use Rattle.std.specs.Prelude.{refl};
     ghost use Rattle.cap_tree.specs.Queue.{of_queue, of_users, with_settings};
-    ghost use Rattle.cap_tree.specs.QueueLaws.{none_fits, same_counts, same_number};
+    ghost use Rattle.cap_tree.specs.QueueLaws.{none_fits, same_counts, same_number, same_settings_own};
 
     ghost old = { λ c m. 0 };
 
@@ -141,9 +141,107 @@ impl<'a, const K: usize, A: Allocator> Change<Queue<K, A>> for SetSettings<'a, K
 
     ghost own_above = { λ c x m. refl };
 
-    ghost own_at = { λ c x m h. same_number (of_users x m) };
+    ghost own_at = { λ c x m h. same_settings_own c.row.now x m };
 
     ghost old_fits = { λ c x m h. none_fits (of_users x m) };
+}
+
+/// An application waits at a queue.
+#[derive(Drop)]
+pub(crate) struct Wait {
+    pub(crate) number: u64,
+}
+
+impl<const K: usize, A: Allocator> Change<Queue<K, A>> for Wait {
+    ghost use Rattle.std.specs.Prelude.{refl};
+    ghost use Rattle.cap_tree.specs.Measure.{one_waiting};
+    ghost use Rattle.cap_tree.specs.Queue.{IsFree, of_users, waiting_above, waiting_more};
+    ghost use Rattle.cap_tree.specs.QueueLaws.{none_fits, own_more, waits_above_own, waits_at, waits_more};
+
+    ghost old = { λ c m. 0 };
+
+    ghost new = { λ c. one_waiting };
+
+    ghost above = { λ c. waiting_above };
+
+    ghost at = { λ c. waiting_more c.number };
+
+    ghost can = { λ c q. IsFree c.number q };
+
+    ghost grows = { λ c q. ⊥ };
+
+    fn change_above(&self, item: &mut Queue<K, A>) {
+        item.wait_above();
+    }
+
+    fn change_at(&self, item: &mut Queue<K, A>) -> Result<(), NoMemory> {
+        item.wait_at(self.number);
+        Ok(())
+    }
+
+    ghost name_above = { λ c x. refl };
+
+    ghost name_at = { λ c x. refl };
+
+    ghost stored_above = { λ c x m. waits_more x m };
+
+    ghost stored_at = { λ c x m. waits_at c.number x m };
+
+    ghost own_above = { λ c x m. waits_above_own x m };
+
+    ghost own_at = { λ c x m h. own_more c.number x m };
+
+    ghost old_fits = { λ c x m h. none_fits (of_users x m) };
+}
+
+/// An application that waited at a queue does so no more.
+#[derive(Drop)]
+pub(crate) struct Serve {
+    pub(crate) number: u64,
+}
+
+impl<const K: usize, A: Allocator> Change<Queue<K, A>> for Serve {
+    ghost use Rattle.std.specs.Prelude.{refl};
+    ghost use Rattle.cap_base.specs.Members.{IsIn};
+    ghost use Rattle.cap_tree.specs.Measure.{one_waiting};
+    ghost use Rattle.cap_tree.specs.Numbers.{AreNumbers};
+    ghost use Rattle.cap_tree.specs.Queue.{served_above, waiting_less};
+    ghost use Rattle.cap_tree.specs.QueueLaws.{one_own, own_less, served_above_own, served_at, waits_less};
+
+    ghost old = { λ c. one_waiting };
+
+    ghost new = { λ c m. 0 };
+
+    ghost above = { λ c. served_above };
+
+    ghost at = { λ c. waiting_less c.number };
+
+    ghost can = { λ c q. AreNumbers q.waiting × IsIn c.number q.waiting };
+
+    ghost grows = { λ c q. ⊥ };
+
+    fn change_above(&self, item: &mut Queue<K, A>) {
+        item.serve_above();
+    }
+
+    fn change_at(&self, item: &mut Queue<K, A>) -> Result<(), NoMemory> {
+        item.serve_at(self.number);
+        Ok(())
+    }
+
+    ghost name_above = { λ c x. refl };
+
+    ghost name_at = { λ c x. refl };
+
+    ghost stored_above = { λ c x m. waits_less x m };
+
+    ghost stored_at = { λ c x m. served_at c.number x m };
+
+    ghost own_above = { λ c x m. served_above_own x m };
+
+    ghost own_at = { λ c x m h. own_less c.number x m h.0 h.1 };
+
+    ghost old_fits = { λ c x m h. one_own c.number x m h.0 h.1 };
 }
 
 /// Whether a queue's own state is RUNNING.

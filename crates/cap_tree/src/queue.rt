@@ -1,14 +1,17 @@
 //! One queue of the tree (`Queue`): its settings, what is used and active in it and under it, a leaf's users by hash.
-ghost use Rattle.std.specs.Prelude.{◌≡◌, ◌≤◌, None, IfOk, OnOk, OnErr, bytes_eq};
+ghost use Rattle.std.specs.Prelude.{◌≡◌, ◌<◌, ◌≤◌, ◌⊎◌, None, IfOk, OnOk, OnErr, bytes_eq, length, vec_capacity};
+ghost use Rattle.std.specs.FinMap.{from_entries};
 ghost use Rattle.std.specs.Option.{option_copied};
 ghost use Rattle.indexmap.specs.IndexMap.{get};
 ghost use Rattle.cap_vector.specs.Fullness.{shares};
 ghost use Rattle.cap_base.specs.Paths.{name_of};
 ghost use Rattle.cap_tree.specs.Count.{IsPart, MayMove};
+ghost use Rattle.cap_base.specs.Members.{IsIn};
 ghost use Rattle.cap_tree.specs.Measure.{Measure};
-ghost use Rattle.cap_tree.specs.Queue.{IsUnused, HasSettingsOf, count_in, moved_above, moved_at, of_queue, of_users, queue_count, stays_in_maximum, stays_in_user_limit, use_of, user_row, with_count, with_running, with_settings};
+ghost use Rattle.cap_tree.specs.Numbers.{AreNumbers, IsNextNumber, IsPlaceOf};
+ghost use Rattle.cap_tree.specs.Queue.{IsUnused, HasSettingsOf, MayGrow, active_of, count_in, moved_above, moved_at, of_queue, of_users, queue_count, served_above, stays_in_maximum, stays_in_user_limit, use_of, user_row, waiting_above, waiting_less, waiting_more, with_count, with_running, with_settings};
 
-use crate::branch::{CopyIn, Served, TreeItem};
+use crate::branch::{CopyIn, Marked, Served, TreeItem};
 use crate::count::{Part, Total, moved};
 use crate::over_limit::fits_in_maximum;
 use cap_base::{NoMemory, PathText, QueueRow, ShortText};
@@ -36,12 +39,17 @@ pub struct Queue<const K: usize, A: Allocator> {
     count: Total<K>,
     shares: Shares<K>,
     users: Users<K, A>,
+    // The numbers of the applications that wait at it, in order, with room for all that are active there; and how many wait at it
+    // and under it.
+    waiting: Vec<u64, A>,
+    waits: u64,
 }
 
 impl<const K: usize, A: Allocator> Model for Queue<K, A> {
     ghost use Rattle.std.specs.Coded.{codes};
     ghost use Rattle.std.specs.FinMap.{from_entries};
-    ghost use Rattle.cap_tree.specs.Queue.{AreSharesOf, Queue as Row, users_code};
+    ghost use Rattle.std.specs.Prelude.{vec_capacity};
+    ghost use Rattle.cap_tree.specs.Queue.{IsKept, Queue as Row, users_code};
 
     ghost Value = { Row };
 
@@ -56,13 +64,16 @@ impl<const K: usize, A: Allocator> Model for Queue<K, A> {
       used = q.count.used;
       active = q.count.active;
       users = from_entries q.users.entries;
+      waiting = q.waiting.items;
+      waits = q.waits;
     } };
 
-    ghost invariant = { λ q. AreSharesOf q.count.used q.guaranteed q.shares };
+    ghost invariant = { λ q. IsKept q.count.used q.guaranteed q.shares
+        (from_entries q.users.entries) (vec_capacity q.waiting) };
 }
 
 impl<const K: usize, A: Allocator> TreeItem for Queue<K, A> {
-    ghost use Rattle.std.specs.Prelude.{false};
+    ghost use Rattle.std.specs.Prelude.{nat_lt};
     ghost use Rattle.cap_tree.specs.Queue.{of_queue, of_users};
     ghost use Rattle.cap_tree.specs.Service.{queue_cmp};
 
@@ -72,8 +83,7 @@ impl<const K: usize, A: Allocator> TreeItem for Queue<K, A> {
 
     ghost own = { of_users };
 
-    // What waits at queues is marked in the tree of a snapshot alone.
-    ghost waits = { λ q. false };
+    ghost waits = { λ q. nat_lt 0 q.waits };
 
     ghost order = { queue_cmp };
 
@@ -95,6 +105,10 @@ impl<const K: usize, A: Allocator, B: Allocator + Copy> CopyIn<Queue<K, B>, B> f
             Ok(users) => users,
             Err(NoMemory) => return Err(NoMemory),
         };
+        let waiting = match copy_numbers(alloc, &self.waiting) {
+            Ok(waiting) => waiting,
+            Err(NoMemory) => return Err(NoMemory),
+        };
         Ok(Queue {
             name,
             guaranteed: self.guaranteed,
@@ -104,6 +118,8 @@ impl<const K: usize, A: Allocator, B: Allocator + Copy> CopyIn<Queue<K, B>, B> f
             count: self.count,
             shares: self.shares,
             users,
+            waiting,
+            waits: self.waits,
         })
     }
 
@@ -130,6 +146,23 @@ impl<const K: usize, A: Allocator> Served for Queue<K, A> {
     ghost names = { same_name };
 }
 
+impl<const K: usize, A: Allocator> Marked for Queue<K, A> {
+    ghost use Rattle.cap_tree.specs.Numbers.{first_number};
+
+    ghost mark = { λ q. first_number q.waiting };
+
+    fn mark(&self) -> u64 {
+        match self.waiting.first() {
+            None => 0,
+            Some(number) => *number,
+        }
+    }
+
+    fn waits(&self) -> bool {
+        self.waits > 0
+    }
+}
+
 impl<const K: usize, A: Allocator + Copy> Queue<K, A> {
     /// The queue of a row of the settings, with nothing in it.
     pub(crate) fn new(alloc: A, path: &PathText, row: &QueueRow<K>) -> Result<Queue<K, A>, NoMemory>
@@ -150,6 +183,8 @@ impl<const K: usize, A: Allocator + Copy> Queue<K, A> {
             count,
             shares: Shares::of(&count.used, &guaranteed),
             users: IndexMap::new(alloc),
+            waiting: Vec::new(alloc),
+            waits: 0,
         })
     }
 }
@@ -252,38 +287,19 @@ impl<const K: usize, A: Allocator> Queue<K, A> {
         fits_exchanged(&used, old, new, self.factor, &self.guaranteed)
     }
 
-    /// Sets what is counted of a user: where that is nothing, the user has no row any more. `NoMemory` changes nothing, and comes
-    /// only where the user has no row.
-    fn set_user(&mut self, user: &ShortText, count: Total<K>) -> Result<(), NoMemory>
-        ensures ok { OnOk result
-            (self.new ≡
-            record self.old { users = with_count user.now count.entry self.old.users }) }
-        ensures err { OnErr result (self.new ≡ self.old) }
-        ensures absent { OnErr result (user_row user.now self.old.users ≡ None) }
-    {
-        if count.is_zero() {
-            self.users.swap_remove(user);
-            return Ok(());
-        }
-        match self.users.insert(*user, count) {
-            Ok(_) => {}
-            Err(_) => return Err(NoMemory),
-        }
-        Ok(())
-    }
-
     /// Takes an old part away from what is counted in it and under it, and adds a new one.
     pub(crate) fn move_below(&mut self, old: &Part<K>, new: &Part<K>)
         requires fits { IsPart old.now (queue_count self.old) }
         requires within { MayMove old.now new.now (queue_count self.old) }
         ensures { self.new ≡ moved_above old.now new.now self.old }
     {
-        self.count = moved(&self.count, old, new);
-        self.shares = Shares::of(&self.count.used, &self.guaranteed);
+        let count = moved(&self.count, old, new);
+        self.shares = Shares::of(&count.used, &self.guaranteed);
+        self.count = count;
     }
 
     /// Takes an old part away from what is counted of a user and of the queue, and adds a new one. `NoMemory` changes nothing, and
-    /// comes only where the user has no row.
+    /// comes only where the user has no row, or more applications are active.
     pub(crate) fn move_user(
         &mut self,
         user: &ShortText,
@@ -295,15 +311,74 @@ impl<const K: usize, A: Allocator> Queue<K, A> {
         requires sums { (m : Measure) → of_users self.old m ≤ of_queue self.old m }
         ensures ok { OnOk result (self.new ≡ moved_at K user.now old.now new.now self.old) }
         ensures err { OnErr result (self.new ≡ self.old) }
-        ensures absent { OnErr result (user_row user.now self.old.users ≡ None) }
+        ensures grows { OnErr result (MayGrow user.now old.now new.now self.old) }
     {
-        let count = moved(&self.user(user), old, new);
-        match self.set_user(user, count) {
+        let own = moved(&self.user(user), old, new);
+        let count = moved(&self.count, old, new);
+        match make_room(&mut self.waiting, old.active, new.active, count.active) {
             Ok(()) => {}
             Err(NoMemory) => return Err(NoMemory),
         }
-        self.move_below(old, new);
+        match set_user(&mut self.users, user, own) {
+            Ok(()) => {}
+            Err(NoMemory) => return Err(NoMemory),
+        }
+        self.shares = Shares::of(&count.used, &self.guaranteed);
+        self.count = count;
         Ok(())
+    }
+
+    /// One more waits at a queue under it.
+    pub(crate) fn wait_above(&mut self)
+        requires { self.old.waits < 18446744073709551615 }
+        ensures { self.new ≡ waiting_above self.old }
+    {
+        self.waits += 1;
+    }
+
+    /// An application of its own waits at it. It takes no memory.
+    pub(crate) fn wait_at(&mut self, number: u64)
+        requires few { self.old.waits < 18446744073709551615 }
+        requires numbers { AreNumbers self.old.waiting }
+        requires other { ¬ IsIn number self.old.waiting }
+        requires room { length self.old.waiting < active_of self.old.users }
+        ensures { self.new ≡ waiting_more number self.old }
+    {
+        let place = place_of(&self.waiting, number);
+        let Ok(()) = self.waiting.insert(place, number) else {
+            unreachable!()
+        };
+        self.waits += 1;
+    }
+
+    /// One that waited at a queue under it does so no more.
+    pub(crate) fn serve_above(&mut self)
+        requires { 1 ≤ self.old.waits }
+        ensures { self.new ≡ served_above self.old }
+    {
+        self.waits -= 1;
+    }
+
+    /// An application that waited at it does so no more.
+    pub(crate) fn serve_at(&mut self, number: u64)
+        requires some { 1 ≤ self.old.waits }
+        requires numbers { AreNumbers self.old.waiting }
+        requires there { IsIn number self.old.waiting }
+        ensures { self.new ≡ waiting_less number self.old }
+    {
+        let place = place_of(&self.waiting, number);
+        self.waiting.remove(place - 1);
+        self.waits -= 1;
+    }
+
+    /// The number that waits at it next after that one.
+    pub(crate) fn waiting_after(&self, number: u64) -> Option<u64>
+        requires { AreNumbers self.now.waiting }
+        ensures { IsNextNumber number self.now.waiting result }
+    {
+        let waiting = self.waiting.as_slice();
+        let place = place_of(waiting, number);
+        waiting.get(place).copied()
     }
 
     /// Sets its settings to those of a row. What is counted of it stays.
@@ -324,6 +399,69 @@ impl<const K: usize, A: Allocator> Queue<K, A> {
     {
         self.running = running;
     }
+}
+
+/// Sets what is counted of a user: where that is nothing, the user has no row any more. `NoMemory` changes nothing, and comes only
+/// where the user has no row.
+fn set_user<const K: usize, A: Allocator>(
+    users: &mut Users<K, A>,
+    user: &ShortText,
+    count: Total<K>,
+) -> Result<(), NoMemory>
+    ensures ok { OnOk result (from_entries users.new.entries
+        ≡ with_count user.now count.entry (from_entries users.old.entries)) }
+    ensures err { OnErr result (users.new.entries ≡ users.old.entries) }
+    ensures absent { OnErr result (user_row user.now (from_entries users.old.entries) ≡ None) }
+{
+    if count.is_zero() {
+        users.swap_remove(user);
+        return Ok(());
+    }
+    match users.insert(*user, count) {
+        Ok(_) => {}
+        Err(_) => return Err(NoMemory),
+    }
+    Ok(())
+}
+
+/// Room for so many numbers in all, where more come than go. `NoMemory` changes nothing, and comes only there.
+fn make_room<A: Allocator>(
+    numbers: &mut Vec<u64, A>,
+    go: u64,
+    come: u64,
+    count: u64,
+) -> Result<(), NoMemory>
+    ensures items { numbers.new.items ≡ numbers.old.items }
+    ensures room { vec_capacity numbers.old ≤ vec_capacity numbers.new }
+    ensures ok { OnOk result ((come ≤ go) ⊎ (count ≤ vec_capacity numbers.new)) }
+    ensures err { OnErr result (go < come) }
+{
+    if come <= go {
+        return Ok(());
+    }
+    let more = (count as usize).saturating_sub(numbers.len());
+    match numbers.reserve(more) {
+        Ok(()) => {}
+        Err(_) => return Err(NoMemory),
+    }
+    Ok(())
+}
+
+/// The same numbers under another allocator, with as much room. The error means that an allocation failed.
+fn copy_numbers<A: Allocator, B: Allocator + Copy>(
+    alloc: B,
+    numbers: &Vec<u64, A>,
+) -> Result<Vec<u64, B>, NoMemory>
+    ensures items { IfOk result (λ copy. copy.items ≡ numbers.now.items) }
+    ensures room { IfOk result (λ copy. vec_capacity numbers.now ≤ vec_capacity copy) }
+{
+    let Ok(mut copy) = Vec::with_capacity(alloc, numbers.capacity()) else {
+        return Err(NoMemory);
+    };
+    let Ok(()) = copy.extend_from_slice(numbers) else {
+        return Err(NoMemory);
+    };
+    Ok(copy)
 }
 
 /// The same users under another allocator, with room for all at once. The error means that an allocation failed.
@@ -374,6 +512,24 @@ fn hashed_row<'a, const K: usize, A: Allocator>(
     ensures { option_copied result ≡ get bytes_eq users.now user.now }
 {
     users.get(user)
+}
+
+/// How many numbers in order are not greater than that one, by a binary search.
+fn place_of(numbers: &[u64], number: u64) -> usize
+    requires { AreNumbers numbers.now }
+    ensures { IsPlaceOf number numbers.now result }
+{
+    let mut low = 0;
+    let mut high = numbers.len();
+    while low < high {
+        let middle = low + (high - low) / 2;
+        if number < numbers[middle] {
+            high = middle;
+        } else {
+            low = middle + 1;
+        }
+    }
+    low
 }
 
 /// The last name of a dotted path.

@@ -1,21 +1,24 @@
 //! The tree of queues, seen as the list of its rows (`QueueTree`): its reads, and its changes at a queue.
-ghost use Rattle.std.specs.Prelude.{◌≡◌, ◌<◌, ◌≤◌, ◌+◌, ◌==◌, length, ◌++◌, ◌∷◌, [], map, None, Some, true, IfErr, IfOk, IfSome, MatchOption, OnOk, OnErr};
+ghost use Rattle.std.specs.Prelude.{◌≡◌, ◌<◌, ◌≤◌, ◌+◌, ◌==◌, length, ◌++◌, ◌∷◌, [], map, None, Some, true, IfErr, IfOk, IfSome, MatchOption, OnOk, OnErr, ◌⊎◌};
 ghost use Rattle.std.specs.List.{All};
 ghost use Rattle.cap_vector.specs.Vector.{IsWithin, amounts_exchanged, sum_max};
 ghost use Rattle.cap_base.specs.Limits.{factor_max, number_end, queues_max};
 ghost use Rattle.cap_base.specs.Trees.{depth, has_same_paths};
 ghost use Rattle.cap_base.specs.Cascade.{holds_of};
+ghost use Rattle.cap_tree.specs.Branch.{AreSpots};
 ghost use Rattle.cap_tree.specs.Growth.{IsGrowing};
 ghost use Rattle.cap_tree.specs.Limits.{over_limit};
 ghost use Rattle.cap_tree.specs.Paths.{TreeFitsInMemory};
 ghost use Rattle.cap_tree.specs.Count.{IsPart};
 ghost use Rattle.cap_tree.specs.Queue.{IsUnused, MayGive, MayLeave, count_in, stays_in_user_limit, use_of};
-ghost use Rattle.cap_tree.specs.Rows.{AreRows, FindsQueue, HasRoomAtRoot, active_in, applied_row, entered_row, is_running, left_row, lowered_row, moved_rows, queues_of, root_use, used_at, user_row_at, with_row, with_row_of_path, with_state};
+ghost use Rattle.cap_tree.specs.Rows.{AreRows, FindsQueue, HasRoomAtRoot, active_in, applied_row, entered_row, is_running, left_row, lowered_row, moved_rows, queues_of, root_use, served_row, used_at, user_row_at, waiting_row, with_row, with_row_of_path, with_state};
 ghost use Rattle.cap_tree.specs.Service.{HasNoChildAfter, IsNextChild};
 ghost use Rattle.cap_tree.specs.Spot.{IsPosition, item_at, path_at};
+ghost use Rattle.cap_tree.specs.Waiting.{HasNoWaiter, HasRoomAt, IsNextWaiter, waiting_at, waits_in};
+ghost use Rattle.cap_base.specs.Members.{IsIn};
 
-use crate::branch::Branch;
-use crate::change::{Move, Running, SetSettings, SetState};
+use crate::branch::{Branch, Marked};
+use crate::change::{Move, Running, Serve, SetSettings, SetState, Wait};
 use crate::count::Part;
 use crate::found::{Found, Kind, Path};
 use crate::over_limit::{InMaximum, OverLimit};
@@ -187,7 +190,7 @@ impl<const K: usize, A: Allocator + Copy> QueueTree<K, A> {
     }
 
     /// Takes an old part away from what is counted of a user in the leaf, of the leaf and of each queue above it, and adds a new
-    /// one. `NoMemory` changes nothing, and comes only where the user has no row.
+    /// one. `NoMemory` changes nothing, and comes only where the user has no row, or more applications are active.
     fn change(&mut self, path: &Path<A>, change: &Move<'_, K>) -> Result<(), NoMemory>
         requires position { IsPosition self.old path.now.items }
         requires fits { IsPart change.now.old
@@ -196,8 +199,9 @@ impl<const K: usize, A: Allocator + Copy> QueueTree<K, A> {
         ensures ok { OnOk result (self.new ≡ moved_rows K path.now.items
             change.now.user.now change.now.old change.now.new self.old) }
         ensures err { OnErr result (self.new ≡ self.old) }
-        ensures absent { OnErr result
-            (user_row_at path.now.items change.now.user.now self.old ≡ None) }
+        ensures grows { OnErr result
+            ((user_row_at path.now.items change.now.user.now self.old ≡ None)
+            ⊎ (change.now.old.active < change.now.new.active)) }
     {
         match self.root.change(path.as_slice(), change) {
             Ok(()) => {}
@@ -206,15 +210,14 @@ impl<const K: usize, A: Allocator + Copy> QueueTree<K, A> {
         Ok(())
     }
 
-    /// One more application of the user becomes active in the leaf: it counts there, at each queue above, and for the user.
-    /// `NoMemory` changes nothing, and comes only where the user has no application there yet.
+    /// One more application of the user becomes active in the leaf: it counts there, at each queue above, and for the user, and there is
+    /// room for it among those that wait. `NoMemory` changes nothing.
     pub fn enter(&mut self, path: &Path<A>, user: &ShortText) -> Result<(), NoMemory>
         requires position { IsPosition self.old path.now.items }
         requires few { active_in self.old < number_end }
         ensures ok { OnOk result
             (self.new ≡ map (entered_row K (path_at path.now.items self.old) user.now) self.old) }
         ensures err { OnErr result (self.new ≡ self.old) }
-        ensures absent { OnErr result (user_row_at path.now.items user.now self.old ≡ None) }
     {
         let change = Move {
             user,
@@ -354,6 +357,57 @@ impl<const K: usize, A: Allocator + Copy> QueueTree<K, A> {
         self.root.next_child(path.as_slice(), after)
     }
 
+    /// An application of the leaf waits there from now on. It takes no memory: the room was made when the application entered.
+    pub fn wait(&mut self, path: &Path<A>, number: u64)
+        requires number { 1 ≤ number }
+        requires other { ¬ IsIn number (waiting_at path.now.items self.old) }
+        requires room { HasRoomAt path.now.items self.old }
+        requires few { waits_in self.old < number_end }
+        ensures { self.new ≡ map (waiting_row number (path_at path.now.items self.old)) self.old }
+    {
+        let change = Wait { number };
+        let Ok(()) = self.root.change(path.as_slice(), &change) else {
+            unreachable!()
+        };
+    }
+
+    /// An application that waited at the queue does so no more.
+    pub fn serve(&mut self, path: &Path<A>, number: u64)
+        requires { IsIn number (waiting_at path.now.items self.old) }
+        ensures { self.new ≡ map (served_row number (path_at path.now.items self.old)) self.old }
+    {
+        let change = Serve { number };
+        let Ok(()) = self.root.change(path.as_slice(), &change) else {
+            unreachable!()
+        };
+    }
+
+    /// The application that is served first of those that wait: at the first level below `root` where two queues differ, that under the
+    /// less full queue, of two that are as full the lesser name in byte order, and of two at one queue the lesser number. None where none
+    /// waits. It goes level by level to the least full child in which something waits, and takes no memory.
+    pub fn first_served(&self) -> Option<u64>
+        ensures { MatchOption result (HasNoWaiter self.now None) (IsNextWaiter self.now None) }
+    {
+        if !self.root.top().waits() {
+            return None;
+        }
+        Some(self.root.first_waiting())
+    }
+
+    /// The application that is served next after one that waits at a queue. None where none is left. It takes no memory.
+    pub fn next_served(&self, path: &Path<A>, number: u64) -> Option<u64>
+        requires { IsIn number (waiting_at path.now.items self.now) }
+        ensures { MatchOption result (HasNoWaiter self.now (Some (path.now.items, number)))
+            (IsNextWaiter self.now (Some (path.now.items, number))) }
+    {
+        self.root.places_differ();
+        let position = path.as_slice();
+        match self.root.get(position).waiting_after(number) {
+            Some(next) => Some(next),
+            None => self.root.next_waiting(position),
+        }
+    }
+
     /// What is used in the queue and under it, in MiB, vcores and GPUs.
     pub fn use_of(&self, path: &Path<A>) -> Sum<K>
         requires { IsPosition self.now path.now.items }
@@ -381,6 +435,8 @@ fn add_all<const K: usize, A: Allocator + Copy>(
 ) -> Result<(), NoMemory>
     requires growing { IsGrowing K root.old rows.now }
     requires few { length root.old + length rows.now ≤ queues_max }
+    requires tree { AreSpots (λ q. q.name) root.old }
+    ensures tree { AreSpots (λ q. q.name) root.new }
     ensures grown { OnOk result (IsGrowing K root.new []) }
     ensures queues { OnOk result (queues_of root.new ≡ queues_of root.old ++ rows.now) }
 {

@@ -16,7 +16,7 @@ loop-row-preserved g c =
     let d : c.depth-levels.result ≡ depth c.row-item.result.path = c.depth-levels.ensures ∙ ap depth (c.as_bytes.ensures.value ∙ c.path-path.ensures) in
     let n = grow_next g.row.K c.loop-row.root c.add.new.self c.args.root.now c.args.rows.now c.loop-row.row-index (c.depth-levels.result - 1) c.row-item.result c.in-Ok.queue c.loop-row-test.true c.row-item.is
     c.loop-row.invariant.growing c.loop-row.invariant.queues (ap (λ k. k - 1) d) c.in-Ok.ensures.0 c.in-Ok.ensures.1 c.in-Ok-add.ensures.ok in
-    record { growing = n.0.growing; queues = n.1 }
+    record { growing = n.0.growing; queues = n.1; tree = c.add.ensures.tree }
 
 pub new-requires : goal.new-requires
 new-requires g c = ((search), ((search), c.path-path.ensures))

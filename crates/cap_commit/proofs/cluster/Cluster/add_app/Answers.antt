@@ -1,9 +1,11 @@
-use Rattle.cap_commit.proofs.Prelude.{ClusterState, flat_of, may_enter, ◌≡◌, ℕ, List, ap, ◌∙◌, map, arith, Some, option_map_or, Account, IsEntered, account_of, new_account, queues_of, entered_row, zero_count, one_app}
+use Rattle.cap_commit.proofs.Prelude.{ClusterState, flat_of, may_enter, ◌≡◌, ℕ, List, ap, ◌∙◌, map, arith, Some, option_map_or, Account, IsEntered, account_of, new_account, queues_of, entered_row, zero_count, one_app, add_app}
 use Rattle.cap_commit.proofs.Fitting.{apps_fit}
 use Rattle.cap_commit.proofs.Holding.{held_entered, held_same, with_table}
 use Rattle.cap_commit.proofs.Moving.{moved_settings}
 use Rattle.cap_commit.proofs.RowsAt.{all_few}
 use Rattle.cap_commit.proofs.Sizes.{tree_fits}
+use Rattle.cap_commit.proofs.Followed.{waited_same_table}
+use Rattle.cap_commit.proofs.Waiting.{moved_keeps, waited_entered, waited_rows}
 use Rattle.cap_commit.proofs.cluster.Cluster.add_app.Goals as goal
 
 -- the application that entered knows its position
@@ -22,24 +24,37 @@ enter-requires g c =
     let items = at_position _ _ c.args.position.items _ _ _ _ c.in_ok-number.ensures.number c.in_ok-number.ensures.accounts c.in-Some.ensures.account c.position.ensures in
     let tree = c.deref_mut-tree.ensures.value in
     let at = rw (← c.self.view_is) at c.requires.position in
-    (tree_fits _ c.self.invariant.resources, (omega arith, (rw (tree, items) at.present, rw tree (omega (arith, all_few _ c.self.invariant)))))
+    (tree_fits _ c.self.invariant.consistent.resources, (omega arith, (rw (tree, items) at.present, rw tree (omega (arith, all_few _ c.self.invariant.consistent)))))
 
 pub invariant_of-self : goal.invariant_of-self
-invariant_of-self g c = held_same _ c.self.invariant c.submit.new.self c.in_err-number.ensures.table_stays c.in_err-number.ensures.accounts_stay
+invariant_of-self g c = record {
+  consistent = held_same _ c.self.invariant.consistent c.submit.new.self c.in_err-number.ensures.table_stays c.in_err-number.ensures.accounts_stay;
+  waiting = waited_same_table c.self.inside.apps.table c.submit.new.self.table _ c.in_err-number.ensures.table_stays c.self.invariant.waiting;
+}
 
 pub invariant_of-self-in_default-enter : goal.invariant_of-self-in_default-enter
 invariant_of-self-in_default-enter g c =
     let old = c.self.inside.apps in
     rw (rw c.deref_mut-tree.ensures.value at c.in_default-enter.ensures.err)
-    (held_same _ c.self.invariant c.take_back.new.self (c.take_back.ensures.table c.args.path.now c.args.user.now old.table c.in_ok-number.ensures.table)
-    (c.take_back.ensures.accounts old.table.next (new_account c.args.position.items) old.accounts c.in_ok-number.ensures.accounts.last))
+    (record {
+      consistent =
+          held_same _ c.self.invariant.consistent c.take_back.new.self (c.take_back.ensures.table c.args.path.now c.args.user.now old.table c.in_ok-number.ensures.table)
+          (c.take_back.ensures.accounts old.table.next (new_account c.args.position.items) old.accounts c.in_ok-number.ensures.accounts.last);
+      waiting = waited_same_table old.table c.take_back.new.self.table _ (c.take_back.ensures.table c.args.path.now c.args.user.now old.table c.in_ok-number.ensures.table) c.self.invariant.waiting;
+    })
 
 pub invariant_of-self-in-Ok : goal.invariant_of-self-in-Ok
 invariant_of-self-in-Ok g c =
     let items = at_position _ _ c.args.position.items _ _ _ _ c.in_ok-number.ensures.number c.in_ok-number.ensures.accounts c.in-Some.ensures.account c.position.ensures in
     let at = rw (← c.self.view_is) at c.requires.position in
     rw ((rw (c.deref_mut-tree.ensures.value, items) at c.in-Ok.ensures.ok) ∙ ap (λ p. map (entered_row g.row.K p c.args.user.now) c.self.inside.tree.value) at.path_is)
-    (held_entered _ c.self.invariant c.args.path.now c.args.user.now c.args.position.items c.submit.new.self c.numbers_rise.ensures (rw (← c.self.view_is) at c.requires.free) at c.in_ok-number.ensures.table c.in_ok-number.ensures.accounts)
+    (record {
+      consistent = held_entered _ c.self.invariant.consistent c.args.path.now c.args.user.now c.args.position.items c.submit.new.self c.numbers_rise.ensures (rw (← c.self.view_is) at c.requires.free) at c.in_ok-number.ensures.table c.in_ok-number.ensures.accounts;
+      waiting =
+          waited_same_table (add_app c.args.path.now c.args.user.now c.self.inside.apps.table) c.submit.new.self.table _ c.in_ok-number.ensures.table
+          (waited_rows _ (moved_keeps g.row.K c.args.path.now c.args.user.now (zero_count g.row.K) (one_app g.row.K)) _ c.self.inside.tree.value
+          (waited_entered c.self.inside.apps.table.active c.self.inside.tree.value c.self.inside.apps.table.next c.args.path.now c.args.user.now c.self.invariant.waiting));
+    })
 
 pub returns-clause-ok : goal.returns-clause-ok
 returns-clause-ok g c =

@@ -18,8 +18,12 @@ pub invariant_of-self : goal.invariant_of-self
 invariant_of-self g c =
     let nodes = c.self.inside.nodes in
     let new = c.register.new.self in
-    held_nodes _ c.self.invariant new
-    (stays (λ t. t.live) c.register.result nodes new _ _ c.register.ensures.ok c.register.ensures.err refl)
-    (stays (λ t. t.reserved) c.register.result nodes new _ _ c.register.ensures.ok c.register.ensures.err refl)
-    (stays (λ t. t.next_container) c.register.result nodes new _ _ c.register.ensures.ok c.register.ensures.err refl)
-    (reserved_joined c.register.result nodes new _ _ _ _ c.register.ensures.ok c.register.ensures.err c.self.invariant.reservations)
+    record {
+      consistent =
+          held_nodes _ c.self.invariant.consistent new
+          (stays (λ t. t.live) c.register.result nodes new _ _ c.register.ensures.ok c.register.ensures.err refl)
+          (stays (λ t. t.reserved) c.register.result nodes new _ _ c.register.ensures.ok c.register.ensures.err refl)
+          (stays (λ t. t.next_container) c.register.result nodes new _ _ c.register.ensures.ok c.register.ensures.err refl)
+          (reserved_joined c.register.result nodes new _ _ _ _ c.register.ensures.ok c.register.ensures.err c.self.invariant.consistent.reservations);
+      waiting = c.self.invariant.waiting;
+    }

@@ -1,7 +1,7 @@
 use Rattle.cap_commit.proofs.cluster.Cluster.apps.Goals as goal
 
 pub returns-clause-few : goal.returns-clause-few
-returns-clause-few g c = rw (← c.self.view_is) c.self.invariant.few
+returns-clause-few g c = rw (← c.self.view_is) c.self.invariant.consistent.few
 
 pub returns-clause-resources : goal.returns-clause-resources
-returns-clause-resources g c = c.self.invariant.resources
+returns-clause-resources g c = c.self.invariant.consistent.resources

@@ -8,5 +8,9 @@ beat-requires g c = (search nodes_in_cluster, rw (← c.self.view_is) at c.requi
 
 pub invariant_of-self : goal.invariant_of-self
 invariant_of-self g c =
-    held_nodes _ c.self.invariant c.beat.new.self (ap (λ (t : NodeTable). t.live) c.beat.ensures.table) (ap (λ (t : NodeTable). t.reserved) c.beat.ensures.table) (ap (λ (t : NodeTable). t.next_container) c.beat.ensures.table)
-    (reserved_changed c.args.number _ (λ x. refl) (λ x. refl) c.self.inside.nodes c.beat.new.self c.beat.ensures.table c.self.invariant.reservations)
+    record {
+      consistent =
+          held_nodes _ c.self.invariant.consistent c.beat.new.self (ap (λ (t : NodeTable). t.live) c.beat.ensures.table) (ap (λ (t : NodeTable). t.reserved) c.beat.ensures.table) (ap (λ (t : NodeTable). t.next_container) c.beat.ensures.table)
+          (reserved_changed c.args.number _ (λ x. refl) (λ x. refl) c.self.inside.nodes c.beat.new.self c.beat.ensures.table c.self.invariant.consistent.reservations);
+      waiting = c.self.invariant.waiting;
+    }

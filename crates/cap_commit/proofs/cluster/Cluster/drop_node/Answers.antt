@@ -14,8 +14,12 @@ pub invariant_of-self : goal.invariant_of-self
 invariant_of-self g c =
     let kept = ap (λ (h : ClusterState g.row.K). h.flat.nodes.reserved) c.self.view_is ∙ ap (λ (f : Flat g.row.K). f.nodes.reserved) c.unreserve_node.ensures.flat in
     let none = ap (filter (λ (r : Reservation). r.node == c.args.number)) kept ∙ none_stay (λ (r : Reservation). r.node == c.args.number) c.args.self.now.flat.nodes.reserved in
-    held_nodes _ c.self.invariant c.gone.new.self (ap (λ (t : NodeTable). t.live) c.gone.ensures) (ap (λ (t : NodeTable). t.reserved) c.gone.ensures) (ap (λ (t : NodeTable). t.next_container) c.gone.ensures)
-    (reserved_gone c.args.number c.self.inside.nodes c.gone.new.self none c.gone.ensures c.self.invariant.reservations)
+    record {
+      consistent =
+          held_nodes _ c.self.invariant.consistent c.gone.new.self (ap (λ (t : NodeTable). t.live) c.gone.ensures) (ap (λ (t : NodeTable). t.reserved) c.gone.ensures) (ap (λ (t : NodeTable). t.next_container) c.gone.ensures)
+          (reserved_gone c.args.number c.self.inside.nodes c.gone.new.self none c.gone.ensures c.self.invariant.consistent.reservations);
+      waiting = c.self.invariant.waiting;
+    }
 
 pub returns-clause-flat : goal.returns-clause-flat
 returns-clause-flat g c =

@@ -6,7 +6,7 @@ pub returns-in-Application-clause-first : goal.returns-in-Application-clause-fir
 returns-in-Application-clause-first g c =
     let here = c.self.inside.nodes in
     c.next_of_app.ensures
-    ∙ first_above (λ (d : Container). d.app == c.in-Application.app) 1 here.live here.next_container (omega arith) c.self.invariant.numbers
+    ∙ first_above (λ (d : Container). d.app == c.in-Application.app) 1 here.live here.next_container (omega arith) c.self.invariant.consistent.numbers
     ∙ ap (λ o. find (owns o) here.live) (sym c.in-Application.is)
     ∙ ap (λ (h : ClusterState g.row.K). find (owns c.args.owner) h.flat.nodes.live) c.self.view_is
 
@@ -14,7 +14,7 @@ pub returns-in-Node-clause-first : goal.returns-in-Node-clause-first
 returns-in-Node-clause-first g c =
     let here = c.self.inside.nodes in
     c.next_on_node.ensures
-    ∙ first_above (λ (d : Container). d.node == c.in-Node.node) 1 here.live here.next_container (omega arith) c.self.invariant.numbers
+    ∙ first_above (λ (d : Container). d.node == c.in-Node.node) 1 here.live here.next_container (omega arith) c.self.invariant.consistent.numbers
     ∙ ap (λ o. find (owns o) here.live) (sym c.in-Node.is)
     ∙ ap (λ (h : ClusterState g.row.K). find (owns c.args.owner) h.flat.nodes.live) c.self.view_is
 
@@ -25,10 +25,10 @@ pub next_on_node-requires : goal.next_on_node-requires
 next_on_node-requires g c = search nodes_in_cluster
 
 pub returns-in-Node-clause-few : goal.returns-in-Node-clause-few
-returns-in-Node-clause-few g c = rw (← c.self.view_is) c.self.invariant.few_live
+returns-in-Node-clause-few g c = rw (← c.self.view_is) c.self.invariant.consistent.few_live
 
 pub returns-in-Application-clause-few : goal.returns-in-Application-clause-few
-returns-in-Application-clause-few g c = rw (← c.self.view_is) c.self.invariant.few_live
+returns-in-Application-clause-few g c = rw (← c.self.view_is) c.self.invariant.consistent.few_live
 
 pub returns-in-Node-clause-resources : goal.returns-in-Node-clause-resources
-returns-in-Node-clause-resources g c = c.self.invariant.resources
+returns-in-Node-clause-resources g c = c.self.invariant.consistent.resources

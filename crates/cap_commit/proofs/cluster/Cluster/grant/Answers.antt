@@ -1,10 +1,14 @@
-use Rattle.cap_commit.proofs.Fitting.{in_cluster, node_in_cluster, nodes_in_cluster}
-use Rattle.cap_commit.proofs.Prelude.{◌≤◌, sym, ap, subst, ◌∙◌, arith, length, map, None, [], ◌∷◌, ◌++◌, ◌≡◌, ◌==◌, find, filter, not, option_map, unwrap_or, count_by-le-length, AreApart, Flat, App, ClusterNode, Container, NodeTable, Reservation, change_app, sight_of, reason_of, after_grant, take_one, use_alone, applied_row, queues_of, path_at, UsesRoom, ClusterState, flat_of, taken_back, IsSound}
+use Rattle.cap_commit.proofs.Fitting.{in_cluster, node_in_cluster, nodes_in_cluster, apps_fit}
+use Rattle.cap_commit.proofs.Prelude.{◌≤◌, sym, ap, subst, ◌∙◌, arith, length, map, None, [], ◌∷◌, ◌++◌, ◌≡◌, ◌==◌, find, filter, not, option_map, unwrap_or, count_by-le-length, AreApart, Flat, App, ClusterNode, Container, NodeTable, Reservation, change_app, sight_of, reason_of, after_grant, take_one, use_alone, applied_row, queues_of, path_at, UsesRoom, ClusterState, flat_of, taken_back, IsSound, false, option_map_or, List, Row, AppTable, KeepsApp, only_app, count_of, count_changed, position_of, if◌then◌else◌, Parts, refl, Test, ℕ}
 use Rattle.cap_commit.proofs.Granting.{its_app, its_node, its_room, few_live_yet, numbers_are_left}
-use Rattle.cap_commit.proofs.Granted.{found_again, granted_is, held_granted, kind_is, may_take_back, nodes_with, room_stays, root_stays, app_again}
+use Rattle.cap_commit.proofs.Granted.{found_again, granted_is, held_granted, kind_is, may_take_back, nodes_with, room_stays, root_stays, app_again, granted_table}
 use Rattle.cap_commit.proofs.Holding.{placed_at, position_is}
-use Rattle.cap_commit.proofs.Moving.{moved_settings}
+use Rattle.cap_commit.proofs.Moving.{moved_settings, moved_stays}
 use Rattle.cap_commit.proofs.Sizes.{tree_fits}
+use Rattle.cap_commit.proofs.Followed.{followed_settings, held_followed, may_now, none_there, waited_now}
+use Rattle.cap_commit.proofs.Waiting.{moved_keeps, waited_rows}
+use Rattle.cap_commit.specs.Waiting.{followed_row, waits_of}
+use Rattle.cap_asks.specs.Apps.{is_waiting}
 use Rattle.cap_commit.proofs.cluster.Cluster.grant.Goals as goal
 
 pub returns-clause-proposed : goal.returns-clause-proposed
@@ -19,15 +23,15 @@ place-requires g c =
     let x = c.self.inside in
     let same = ap (λ (y : ClusterState g.row.K). y.flat) c.self.view_is ∙ c.room_for_grant.ensures.flat in
     let passes = subst (λ (f : Flat g.row.K). reason_of (sight_of f) q ≡ None) (sym same) c.requires.passes in
-    let kinds = c.self.invariant.resources in (
+    let kinds = c.self.invariant.consistent.resources in (
       search nodes_in_cluster,
       (
         omega (arith, kinds),
         (
-          rw c.node-node.ensures (its_node _ c.self.invariant q passes c.requires.kind),
+          rw c.node-node.ensures (its_node _ c.self.invariant.consistent q passes c.requires.kind),
           (
-            rw (c.node-node.ensures, c.resource-resource.ensures.value) (its_room _ c.self.invariant q passes c.requires.kind),
-            (numbers_are_left _ c.self.invariant q passes c.requires.kind, few_live_yet _ c.self.invariant q passes c.requires.kind),
+            rw (c.node-node.ensures, c.resource-resource.ensures.value) (its_room _ c.self.invariant.consistent q passes c.requires.kind),
+            (numbers_are_left _ c.self.invariant.consistent q passes c.requires.kind, few_live_yet _ c.self.invariant.consistent q passes c.requires.kind),
           ),
         ),
       ),
@@ -40,7 +44,7 @@ unreachable-requires g c =
     let same = ap (λ (y : ClusterState g.row.K). y.flat) c.self.view_is ∙ c.room_for_grant.ensures.flat in
     let passes = subst (λ (f : Flat g.row.K). reason_of (sight_of f) q ≡ None) (sym same) c.requires.passes in
     let present = ap (λ (t : NodeTable). t.present) c.unreserve.ensures ∙ ap (λ (t : NodeTable). t.present) c.in-Ok-place.ensures.ok.1 in
-    found_again c.unreserve.new.self.present x.nodes.present c.node-node.result q.node present c.node-node.ensures c.in_default.ensures.found (its_node _ c.self.invariant q passes c.requires.kind)
+    found_again c.unreserve.new.self.present x.nodes.present c.node-node.result q.node present c.node-node.ensures c.in_default.ensures.found (its_node _ c.self.invariant.consistent q passes c.requires.kind)
 
 pub apply-requires : goal.apply-requires
 apply-requires g c =
@@ -56,20 +60,20 @@ apply-requires g c =
     let found = c.in-Some-app.ensures.found in
     let a = c.in-Some-app.owner.now.app in
     let owner = ap (λ n. find (λ (y : App). y.number == n) x.apps.table.active) (sym c.app-app.ensures) ∙ sym found in
-    let position = c.position.ensures ∙ position_is _ c.self.invariant c.app-app.result c.in-Some-app.owner.now found c.in-Some-app.ensures.account in
+    let position = c.position.ensures ∙ position_is _ c.self.invariant.consistent c.app-app.result c.in-Some-app.owner.now found c.in-Some-app.ensures.account in
     let nodes = c.unreserve.ensures ∙ ap (λ (t : NodeTable). record t { reserved = filter (λ (r : Reservation). not (r.node == c.node-node.result)) t.reserved }) c.in-Ok-place.ensures.ok.1
     ∙ (λ i. nodes_with x.nodes (c.app-app.ensures i) (c.key-key.ensures i) (c.node-node.ensures i) (c.resource-resource.ensures.value i)) in
     let placed = c.place.ensures.sound in
     let sound : IsSound g.row.K c.unreserve.new.self = rw c.unreserve.ensures (record { rising = placed.rising; held = placed.held; homes = placed.homes; totals = placed.totals }) in
-    let kinds = c.self.invariant.resources in (
-      tree_fits _ c.self.invariant.resources,
+    let kinds = c.self.invariant.consistent.resources in (
+      tree_fits _ c.self.invariant.consistent.resources,
       (
         omega arith,
         (
           omega (arith, kinds),
           (
-            rw (c.deref_mut-tree.ensures.value, c.user.ensures, position, back) (may_take_back _ c.self.invariant q passes c.requires.kind a owner short count),
-            rw (c.deref_mut-tree.ensures.value, back, c.resource-resource.ensures.value) (root_stays _ c.self.invariant q passes c.requires.kind a owner short count (subst (IsSound g.row.K) nodes sound)),
+            rw (c.deref_mut-tree.ensures.value, c.user.ensures, position, back) (may_take_back _ c.self.invariant.consistent q passes c.requires.kind a owner short count),
+            rw (c.deref_mut-tree.ensures.value, back, c.resource-resource.ensures.value) (root_stays _ c.self.invariant.consistent q passes c.requires.kind a owner short count (subst (IsSound g.row.K) nodes sound)),
           ),
         ),
       ),
@@ -81,13 +85,13 @@ add_grant-requires g c =
     let x = c.self.inside in
     let same = ap (λ (y : ClusterState g.row.K). y.flat) c.self.view_is ∙ c.room_for_grant.ensures.flat in
     let passes = subst (λ (f : Flat g.row.K). reason_of (sight_of f) q ≡ None) (sym same) c.requires.passes in
-    let kinds = c.self.invariant.resources in
+    let kinds = c.self.invariant.consistent.resources in
     let room = rw (← c.self.view_is) at c.in-Ok.ensures.ok in
     let stays = room_stays c.app-app.result x.apps.accounts c.take_one.new.self.accounts c.take_one.ensures.accounts room in
     let live = Rattle.cap_commit.proofs.Owning.live_kept c.app-app.result 0 x.apps.accounts c.take_one.new.self.accounts c.take_one.ensures.accounts c.app-app.result in
-    let counted = c.self.invariant.counted c.app-app.result in
+    let counted = c.self.invariant.consistent.counted c.app-app.result in
     let below = count_by-le-length (λ (d : Container). d.app == c.app-app.result) x.nodes.live in
-    let few = few_live_yet _ c.self.invariant q passes c.requires.kind in
+    let few = few_live_yet _ c.self.invariant.consistent q passes c.requires.kind in
     (omega arith, (omega (arith, kinds), (stays, omega (arith, live, counted, below, few))))
 
 pub invariant_of-self-2 : goal.invariant_of-self-2
@@ -104,16 +108,79 @@ invariant_of-self-2 g c =
     let found = c.in-Some-app.ensures.found in
     let a = c.in-Some-app.owner.now.app in
     let owner = ap (λ n. find (λ (y : App). y.number == n) x.apps.table.active) (sym c.app-app.ensures) ∙ sym found in
-    let position = c.position.ensures ∙ position_is _ c.self.invariant c.app-app.result c.in-Some-app.owner.now found c.in-Some-app.ensures.account in
+    let position = c.position.ensures ∙ position_is _ c.self.invariant.consistent c.app-app.result c.in-Some-app.owner.now found c.in-Some-app.ensures.account in
     let nodes = c.unreserve.ensures ∙ ap (λ (t : NodeTable). record t { reserved = filter (λ (r : Reservation). not (r.node == c.node-node.result)) t.reserved }) c.in-Ok-place.ensures.ok.1
     ∙ (λ i. nodes_with x.nodes (c.app-app.ensures i) (c.key-key.ensures i) (c.node-node.ensures i) (c.resource-resource.ensures.value i)) in
-    let path = ap (λ n. path_at n x.tree.value) position ∙ (placed_at _ c.self.invariant q.app a owner).position.path_is in
+    let path = ap (λ n. path_at n x.tree.value) position ∙ (placed_at _ c.self.invariant.consistent q.app a owner).position.path_is in
     let rows = (rw c.deref_mut-tree.ensures.value at c.apply.ensures) ∙ (λ i. map (applied_row g.row.K (path i) (c.user.ensures i) (back i) (c.resource-resource.ensures.value i)) x.tree.value) in
     let take = c.take_one.ensures.table ∙ (λ i. change_app (c.app-app.ensures i) (λ (app : App). record app { asks = take_one (c.key-key.ensures i) app.asks }) x.apps.table) in
     let add = c.add_grant.ensures.table ∙ ap (λ n. change_app n (λ (app : App). record app { grants = app.grants ++ c.new-grant.result ∷ [] }) c.take_one.new.self.table) c.app-app.ensures in
     let same_room = subst (λ n. UsesRoom n 0 0 0 x.apps.accounts c.take_one.new.self.accounts) c.app-app.ensures c.take_one.ensures.accounts in
     let room = subst (λ n. UsesRoom n 0 1 0 c.take_one.new.self.accounts c.add_grant.new.self.accounts) c.app-app.ensures c.add_grant.ensures.accounts in
-    rw (rows, nodes) (held_granted _ c.self.invariant q passes c.requires.kind a owner short count c.take_one.new.self c.add_grant.new.self c.new-grant.result take add same_room room)
+    let p : Parts g.row.K = record { rows = x.tree.value; limits = x.limits; apps = x.apps; nodes = x.nodes } in
+    let held = held_granted p c.self.invariant.consistent q passes c.requires.kind a owner short count c.take_one.new.self c.add_grant.new.self c.new-grant.result take add same_room room in
+    let applied : List Row = map (applied_row g.row.K a.leaf a.user (taken_back (sight_of (flat_of p)) q) q.resource) x.tree.value in
+    let f : App → App = λ app. record app { asks = take_one q.key app.asks; grants = app.grants ++ c.new-grant.result ∷ [] } in
+    let keeps : KeepsApp f = record { number = λ y. refl; leaf = λ y. refl; user = λ y. refl } in
+    let table : c.add_grant.new.self.table ≡ change_app q.app f x.apps.table = granted_table p q c.take_one.new.self c.add_grant.new.self c.new-grant.result take add in
+    let positions : (m : ℕ) → position_of m c.add_grant.new.self.accounts ≡ position_of m x.apps.accounts = λ m. room.positions m ∙ same_room.positions m in
+    let waited = waited_rows _ (moved_keeps g.row.K a.leaf a.user (use_alone (taken_back (sight_of (flat_of p)) q)) (use_alone q.resource)) x.apps.table.active x.tree.value c.self.invariant.waiting in
+    let stays = moved_stays g.row.K a.leaf a.user (use_alone (taken_back (sight_of (flat_of p)) q)) (use_alone q.resource) x.tree.value in
+    let was = c.is_waiting-waited.ensures ∙ sym (ap (λ o. option_map_or is_waiting o false) owner) in
+    let now = (rw (rw rows at c.deref_mut-tree-2.ensures.value) at c.follow_app.ensures) ∙ (λ i. map (followed_row (c.app-app.ensures i) (path_at (position_of (c.app-app.ensures i) c.add_grant.new.self.accounts) applied) (was i) (waits_of (c.app-app.ensures i) c.add_grant.new.self.table)) applied) in
+    rw (now, nodes)
+    (record {
+      consistent = held_followed _ held q.app _ _ _;
+      waiting = waited_now p c.self.invariant.consistent c.numbers_rise.ensures q.app f keeps c.add_grant.new.self table positions applied waited stays;
+    })
+
+pub follow_app-requires : goal.follow_app-requires
+follow_app-requires g c =
+    let q = c.args.proposal.now in
+    let x = c.self.inside in
+    let same = ap (λ (y : ClusterState g.row.K). y.flat) c.self.view_is ∙ c.room_for_grant.ensures.flat in
+    let passes = subst (λ (f : Flat g.row.K). reason_of (sight_of f) q ≡ None) (sym same) c.requires.passes in
+    let room_back = c.requires.old ∙ ap (λ (f : Flat g.row.K). taken_back (sight_of f) q) (sym same) in
+    let back = c.copied-old.ensures.value ∙ room_back in
+    let few : length c.args.old.now ≤ g.row.K = omega (arith, c.copied-old.ensures.vector.count) in
+    let short = subst (λ n. n ≤ g.row.K) (ap length room_back) few in
+    let count = c.resource-resource.ensures.vector.count in
+    let found = c.in-Some-app.ensures.found in
+    let a = c.in-Some-app.owner.now.app in
+    let owner = ap (λ n. find (λ (y : App). y.number == n) x.apps.table.active) (sym c.app-app.ensures) ∙ sym found in
+    let position = c.position.ensures ∙ position_is _ c.self.invariant.consistent c.app-app.result c.in-Some-app.owner.now found c.in-Some-app.ensures.account in
+    let nodes = c.unreserve.ensures ∙ ap (λ (t : NodeTable). record t { reserved = filter (λ (r : Reservation). not (r.node == c.node-node.result)) t.reserved }) c.in-Ok-place.ensures.ok.1
+    ∙ (λ i. nodes_with x.nodes (c.app-app.ensures i) (c.key-key.ensures i) (c.node-node.ensures i) (c.resource-resource.ensures.value i)) in
+    let path = ap (λ n. path_at n x.tree.value) position ∙ (placed_at _ c.self.invariant.consistent q.app a owner).position.path_is in
+    let rows = (rw c.deref_mut-tree.ensures.value at c.apply.ensures) ∙ (λ i. map (applied_row g.row.K (path i) (c.user.ensures i) (back i) (c.resource-resource.ensures.value i)) x.tree.value) in
+    let take = c.take_one.ensures.table ∙ (λ i. change_app (c.app-app.ensures i) (λ (app : App). record app { asks = take_one (c.key-key.ensures i) app.asks }) x.apps.table) in
+    let add = c.add_grant.ensures.table ∙ ap (λ n. change_app n (λ (app : App). record app { grants = app.grants ++ c.new-grant.result ∷ [] }) c.take_one.new.self.table) c.app-app.ensures in
+    let same_room = subst (λ n. UsesRoom n 0 0 0 x.apps.accounts c.take_one.new.self.accounts) c.app-app.ensures c.take_one.ensures.accounts in
+    let room = subst (λ n. UsesRoom n 0 1 0 c.take_one.new.self.accounts c.add_grant.new.self.accounts) c.app-app.ensures c.add_grant.ensures.accounts in
+    let p : Parts g.row.K = record { rows = x.tree.value; limits = x.limits; apps = x.apps; nodes = x.nodes } in
+    let held = held_granted p c.self.invariant.consistent q passes c.requires.kind a owner short count c.take_one.new.self c.add_grant.new.self c.new-grant.result take add same_room room in
+    let applied : List Row = map (applied_row g.row.K a.leaf a.user (taken_back (sight_of (flat_of p)) q) q.resource) x.tree.value in
+    let f : App → App = λ app. record app { asks = take_one q.key app.asks; grants = app.grants ++ c.new-grant.result ∷ [] } in
+    let keeps : KeepsApp f = record { number = λ y. refl; leaf = λ y. refl; user = λ y. refl } in
+    let table : c.add_grant.new.self.table ≡ change_app q.app f x.apps.table = granted_table p q c.take_one.new.self c.add_grant.new.self c.new-grant.result take add in
+    let positions : (m : ℕ) → position_of m c.add_grant.new.self.accounts ≡ position_of m x.apps.accounts = λ m. room.positions m ∙ same_room.positions m in
+    let waited = waited_rows _ (moved_keeps g.row.K a.leaf a.user (use_alone (taken_back (sight_of (flat_of p)) q)) (use_alone q.resource)) x.apps.table.active x.tree.value c.self.invariant.waiting in
+    let stays = moved_stays g.row.K a.leaf a.user (use_alone (taken_back (sight_of (flat_of p)) q)) (use_alone q.resource) x.tree.value in
+    let was = c.is_waiting-waited.ensures ∙ sym (ap (λ o. option_map_or is_waiting o false) owner) in
+    let same_counts : (test : Test) → count_of test c.add_grant.new.self.table.active ≡ count_of test x.apps.table.active = λ test. ap (λ (t : AppTable). count_of test t.active) table ∙ count_changed (λ y. if y.number == q.app then f y else y) (only_app q.app f keeps) test x.apps.table.active in (
+      tree_fits _ c.self.invariant.consistent.resources,
+      (
+        search apps_fit,
+        (
+          c.self.invariant.consistent.resources,
+          (
+            rw (was, c.app-app.ensures) (none_there p c.self.invariant.consistent c.numbers_rise.ensures q.app f keeps c.add_grant.new.self table positions),
+            rw (was, c.app-app.ensures, rw rows at c.deref_mut-tree-2.ensures.value)
+                (may_now p c.self.invariant.consistent c.numbers_rise.ensures q.app f keeps c.add_grant.new.self table positions applied waited stays _ held.tied same_counts),
+          ),
+        ),
+      ),
+    )
 
 pub returns-clause-ok : goal.returns-clause-ok
 returns-clause-ok g c =
@@ -129,7 +196,7 @@ returns-clause-ok g c =
     let found = c.in-Some-app.ensures.found in
     let a = c.in-Some-app.owner.now.app in
     let owner = ap (λ n. find (λ (y : App). y.number == n) x.apps.table.active) (sym c.app-app.ensures) ∙ sym found in
-    let position = c.position.ensures ∙ position_is _ c.self.invariant c.app-app.result c.in-Some-app.owner.now found c.in-Some-app.ensures.account in
+    let position = c.position.ensures ∙ position_is _ c.self.invariant.consistent c.app-app.result c.in-Some-app.owner.now found c.in-Some-app.ensures.account in
     let nodes = c.unreserve.ensures ∙ ap (λ (t : NodeTable). record t { reserved = filter (λ (r : Reservation). not (r.node == c.node-node.result)) t.reserved }) c.in-Ok-place.ensures.ok.1
     ∙ (λ i. nodes_with x.nodes (c.app-app.ensures i) (c.key-key.ensures i) (c.node-node.ensures i) (c.resource-resource.ensures.value i)) in
     let take = c.take_one.ensures.table ∙ (λ i. change_app (c.app-app.ensures i) (λ (app : App). record app { asks = take_one (c.key-key.ensures i) app.asks }) x.apps.table) in
@@ -137,12 +204,13 @@ returns-clause-ok g c =
     let same_room = subst (λ n. UsesRoom n 0 0 0 x.apps.accounts c.take_one.new.self.accounts) c.app-app.ensures c.take_one.ensures.accounts in
     let room = subst (λ n. UsesRoom n 0 1 0 c.take_one.new.self.accounts c.add_grant.new.self.accounts) c.app-app.ensures c.add_grant.ensures.accounts in
     let rows = rw c.deref_mut-tree.ensures.value at c.apply.ensures in
-    let settings = ap queues_of rows ∙ moved_settings g.row.K _ c.user.result.now (use_alone c.copied-old.result) (use_alone c.resource-resource.result) x.tree.value in
+    let follow = rw c.deref_mut-tree-2.ensures.value at c.follow_app.ensures in
+    let settings = ap queues_of follow ∙ followed_settings c.app-app.result _ c.is_waiting-waited.result (waits_of c.app-app.result c.add_grant.new.self.table) c.apply.new.self ∙ ap queues_of rows ∙ moved_settings g.row.K _ c.user.result.now (use_alone c.copied-old.result) (use_alone c.resource-resource.result) x.tree.value in
     let present = ap (λ (t : NodeTable). t.present) c.unreserve.ensures ∙ ap (λ (t : NodeTable). t.present) c.in-Ok-place.ensures.ok.1 in
     let home = c.in-Some.ensures.found ∙ (λ i. find (λ (n : ClusterNode). n.number == c.node-node.ensures i) (present i)) in
     let host = c.host.ensures ∙ ap (λ o. unwrap_or (option_map (λ (n : ClusterNode). n.host) o) []) home in
     let told = c.new-grant.ensures ∙ (λ i. record { container = c.in-Ok-place.ensures.ok.0 i; key = c.key-key.ensures i; node = c.node-node.ensures i; host = host i; resource = c.resource-resource.ensures.value i }) in
-    let is = granted_is _ c.self.invariant q passes c.requires.kind a owner short count c.take_one.new.self c.add_grant.new.self c.new-grant.result take add same_room room c.apply.new.self settings told in
+    let is = granted_is _ c.self.invariant.consistent q passes c.requires.kind a owner short count c.take_one.new.self c.add_grant.new.self c.new-grant.result take add same_room room c.follow_app.new.tree settings told in
     rw nodes (is ∙ (λ i. after_grant (same i) (record { number = sym c.in-Ok-place.ensures.ok.0 i; app = sym c.app-app.ensures i; key = sym c.key-key.ensures i; node = sym c.node-node.ensures i; resource = sym c.resource-resource.ensures.value i })))
 
 pub returns-clause-number : goal.returns-clause-number
@@ -159,7 +227,7 @@ unreachable-requires-in_default-app g c =
     app_again x.apps.table.active c.app-app.result q.app c.app-app.ensures c.in_default-app.ensures.found there
 
 pub unreserve-requires : goal.unreserve-requires
-unreserve-requires g c = (search nodes_in_cluster, subst AreApart (sym (ap (λ (t : NodeTable). t.reserved) c.in-Ok-place.ensures.ok.1)) c.self.invariant.reservations.apart)
+unreserve-requires g c = (search nodes_in_cluster, subst AreApart (sym (ap (λ (t : NodeTable). t.reserved) c.in-Ok-place.ensures.ok.1)) c.self.invariant.consistent.reservations.apart)
 
 pub returns-in-Err-clause-err : goal.returns-in-Err-clause-err
 returns-in-Err-clause-err g c = c.room_for_grant.ensures.flat

@@ -1,11 +1,12 @@
 use Rattle.cap_commit.proofs.Fitting.{nodes_in_cluster, amounts_in_cluster}
-use Rattle.cap_commit.proofs.Prelude.{sym, ap, subst, ◌∙◌, arith, map, ◌==◌, find, App, add_reservation, use_alone, applied_row, queues_of, path_at, flat_of, IsSound}
+use Rattle.cap_commit.proofs.Prelude.{sym, ap, subst, ◌∙◌, arith, map, ◌==◌, find, App, add_reservation, use_alone, applied_row, queues_of, path_at, flat_of, IsSound, zeros}
 use Rattle.cap_commit.proofs.Granted.{app_again}
 use Rattle.cap_commit.proofs.Granting.{its_app}
 use Rattle.cap_commit.proofs.Keeping.{held_reserved, may_take_none, reserve_kind, reserved_is, root_keeps}
 use Rattle.cap_commit.proofs.Holding.{placed_at, position_is}
 use Rattle.cap_commit.proofs.Moving.{moved_settings}
 use Rattle.cap_commit.proofs.Sizes.{tree_fits}
+use Rattle.cap_commit.proofs.Waiting.{moved_keeps, waited_rows}
 use Rattle.cap_commit.proofs.cluster.Cluster.reserve.Goals as goal
 
 pub returns-clause-proposed : goal.returns-clause-proposed
@@ -20,17 +21,17 @@ apply-requires g c =
     let found = c.in-Some.ensures.found in
     let a = c.in-Some.owner.now.app in
     let owner = ap (λ n. find (λ (y : App). y.number == n) x.apps.table.active) (sym c.app-app.ensures) ∙ sym found in
-    let position = c.position.ensures ∙ position_is _ c.self.invariant c.app-app.result c.in-Some.owner.now found c.in-Some.ensures.account in
+    let position = c.position.ensures ∙ position_is _ c.self.invariant.consistent c.app-app.result c.in-Some.owner.now found c.in-Some.ensures.account in
     let nodes = c.in-Ok.ensures.ok ∙ (λ i. add_reservation (record { app = c.app-app.ensures i; key = c.key-key.ensures i; node = c.node-node.ensures i; resource = c.resource-resource.ensures.value i }) x.nodes) in
-    let kinds = c.self.invariant.resources in (
-      tree_fits _ c.self.invariant.resources,
+    let kinds = c.self.invariant.consistent.resources in (
+      tree_fits _ c.self.invariant.consistent.resources,
       (
         omega arith,
         (
           omega (arith, kinds),
           (
-            rw (c.deref_mut-tree.ensures.value, c.user.ensures, position, c.zero-old.ensures) (may_take_none _ c.self.invariant q passes c.requires.kind a owner count),
-            rw (c.deref_mut-tree.ensures.value, c.zero-old.ensures, c.resource-resource.ensures.value) (root_keeps _ c.self.invariant q passes c.requires.kind a owner count (subst (IsSound g.row.K) nodes c.reserve.ensures.sound)),
+            rw (c.deref_mut-tree.ensures.value, c.user.ensures, position, c.zero-old.ensures) (may_take_none _ c.self.invariant.consistent q passes c.requires.kind a owner count),
+            rw (c.deref_mut-tree.ensures.value, c.zero-old.ensures, c.resource-resource.ensures.value) (root_keeps _ c.self.invariant.consistent q passes c.requires.kind a owner count (subst (IsSound g.row.K) nodes c.reserve.ensures.sound)),
           ),
         ),
       ),
@@ -45,11 +46,15 @@ invariant_of-self-2 g c =
     let found = c.in-Some.ensures.found in
     let a = c.in-Some.owner.now.app in
     let owner = ap (λ n. find (λ (y : App). y.number == n) x.apps.table.active) (sym c.app-app.ensures) ∙ sym found in
-    let position = c.position.ensures ∙ position_is _ c.self.invariant c.app-app.result c.in-Some.owner.now found c.in-Some.ensures.account in
+    let position = c.position.ensures ∙ position_is _ c.self.invariant.consistent c.app-app.result c.in-Some.owner.now found c.in-Some.ensures.account in
     let nodes = c.in-Ok.ensures.ok ∙ (λ i. add_reservation (record { app = c.app-app.ensures i; key = c.key-key.ensures i; node = c.node-node.ensures i; resource = c.resource-resource.ensures.value i }) x.nodes) in
-    let path = ap (λ n. path_at n x.tree.value) position ∙ (placed_at _ c.self.invariant q.app a owner).position.path_is in
+    let path = ap (λ n. path_at n x.tree.value) position ∙ (placed_at _ c.self.invariant.consistent q.app a owner).position.path_is in
     let rows = (rw c.deref_mut-tree.ensures.value at c.apply.ensures) ∙ (λ i. map (applied_row g.row.K (path i) (c.user.ensures i) (c.zero-old.ensures i) (c.resource-resource.ensures.value i)) x.tree.value) in
-    rw (rows, nodes) (held_reserved _ c.self.invariant q passes c.requires.kind a owner count)
+    rw (rows, nodes)
+    (record {
+      consistent = held_reserved _ c.self.invariant.consistent q passes c.requires.kind a owner count;
+      waiting = waited_rows _ (moved_keeps g.row.K a.leaf a.user (use_alone (zeros g.row.K)) (use_alone q.resource)) x.apps.table.active x.tree.value c.self.invariant.waiting;
+    })
 
 pub returns-clause-ok : goal.returns-clause-ok
 returns-clause-ok g c =

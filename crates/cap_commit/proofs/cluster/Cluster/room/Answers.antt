@@ -1,5 +1,9 @@
 use Rattle.cap_commit.proofs.Holding.{held_room}
+use Rattle.cap_commit.proofs.Followed.{waited_same_table}
 use Rattle.cap_commit.proofs.cluster.Cluster.room.Goals as goal
 
 pub invariant_of-self : goal.invariant_of-self
-invariant_of-self g c = held_room _ c.self.invariant c.args.number c.room.new.self c.room.ensures.table c.room.ensures.stays
+invariant_of-self g c = record {
+  consistent = held_room _ c.self.invariant.consistent c.args.number c.room.new.self c.room.ensures.table c.room.ensures.stays;
+  waiting = waited_same_table c.self.inside.apps.table c.room.new.self.table _ c.room.ensures.table c.self.invariant.waiting;
+}

@@ -2,12 +2,18 @@ use Rattle.cap_commit.proofs.Prelude.{ap, ◌∙◌, queues_of, Limits}
 use Rattle.cap_commit.proofs.Holding.{held_settings, with_queues}
 use Rattle.cap_commit.proofs.Ties.{rows_change}
 use Rattle.cap_commit.proofs.Fitting.{in_cluster}
+use Rattle.cap_commit.proofs.Waiting.{rows_keep, waited_rows}
+use Rattle.cap_commit.proofs.Sizes.{tree_fits}
 use Rattle.cap_commit.proofs.cluster.Cluster.set_settings.Goals as goal
 
 pub invariant_of-self : goal.invariant_of-self
 invariant_of-self g c =
     let now = rw c.deref_mut-tree.ensures.value at c.set_limits.ensures in
-    rw now (held_settings _ c.self.invariant _ _ c.limits_of-self-inside.result (rows_change c.args.config.now.queues) c.limits_of-self-inside.ensures.few)
+    rw now
+    (record {
+      consistent = held_settings _ c.self.invariant.consistent _ _ c.limits_of-self-inside.result (rows_change c.args.config.now.queues) c.limits_of-self-inside.ensures.few;
+      waiting = waited_rows _ (rows_keep c.args.config.now.queues) c.self.inside.apps.table.active c.self.inside.tree.value c.self.invariant.waiting;
+    })
 
 pub returns-clause-flat : goal.returns-clause-flat
 returns-clause-flat g c =
@@ -20,3 +26,6 @@ returns-clause-flat g c =
 
 pub limits_of-self-inside-requires : goal.limits_of-self-inside-requires
 limits_of-self-inside-requires g c = search in_cluster
+
+pub set_limits-requires : goal.set_limits-requires
+set_limits-requires g c = (tree_fits _ c.self.invariant.consistent.resources, (search in_cluster, rw (c.deref_mut-tree.ensures.value) (rw (← c.self.view_is) at c.requires)))

@@ -1,10 +1,13 @@
 use Rattle.cap_commit.proofs.Prelude.{refl, App, after_telling, told_is, unknown_is}
 use Rattle.cap_commit.proofs.Holding.{held_app}
+use Rattle.cap_commit.proofs.Followed.{waited_table}
 use Rattle.cap_commit.proofs.cluster.Cluster.tell.Goals as goal
 
 pub invariant_of-self : goal.invariant_of-self
-invariant_of-self g c =
-    held_app _ c.self.invariant c.args.number 0 c.tell.new.self (λ (app : App). after_telling app.response c.args.ignored app) (record { number = λ a. refl; leaf = λ a. refl; user = λ a. refl }) c.tell.ensures.table c.tell.ensures.accounts
+invariant_of-self g c = record {
+  consistent = held_app _ c.self.invariant.consistent c.args.number 0 c.tell.new.self (λ (app : App). after_telling app.response c.args.ignored app) (record { number = λ a. refl; leaf = λ a. refl; user = λ a. refl }) c.tell.ensures.table c.tell.ensures.accounts;
+  waiting = waited_table c.args.number (λ (app : App). after_telling app.response c.args.ignored app) (record { number = λ a. refl; leaf = λ a. refl; user = λ a. refl }) (λ a. refl) c.self.inside.apps.table c.tell.new.self.table _ c.tell.ensures.table c.self.invariant.waiting;
+}
 
 pub returns-clause-told : goal.returns-clause-told
 returns-clause-told g c = rw (← c.self.view_is) (told_is _ _ c.args.number c.args.ignored c.numbers_rise.ensures c.tell.ensures.table)

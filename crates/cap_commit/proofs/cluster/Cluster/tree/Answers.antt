@@ -1,7 +1,7 @@
 use Rattle.cap_commit.proofs.cluster.Cluster.tree.Goals as goal
 
 pub returns-clause-resources : goal.returns-clause-resources
-returns-clause-resources g c = c.self.invariant.resources
+returns-clause-resources g c = c.self.invariant.consistent.resources
 
 pub returns-clause-tied : goal.returns-clause-tied
-returns-clause-tied g c = rw (← c.self.view_is) c.self.invariant.tied
+returns-clause-tied g c = rw (← c.self.view_is) c.self.invariant.consistent.tied

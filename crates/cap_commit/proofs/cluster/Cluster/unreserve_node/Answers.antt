@@ -5,7 +5,7 @@ use Rattle.cap_commit.proofs.cluster.Cluster.unreserve_node.Goals as goal
 
 pub unreserve-requires : goal.unreserve-requires
 unreserve-requires g c =
-    let kinds = c.self.invariant.resources in
+    let kinds = c.self.invariant.consistent.resources in
     ((search), (omega (arith, kinds), rw (← c.self.view_is) (found_again c.args.number c.self.inside.nodes.reserved c.in-Some.reservation (sym c.reservation_on.ensures ∙ c.in-Some.is))))
 
 pub returns-in-Some-clause-flat : goal.returns-in-Some-clause-flat

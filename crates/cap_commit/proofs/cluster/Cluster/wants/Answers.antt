@@ -7,7 +7,7 @@ pub returns-else-own : goal.returns-else-own
 returns-else-own g c =
     let off = sym (rw (← c.self.view_is) at c.requires.own) ∙ c.if-own.false in
     rw (← c.self.view_is, c.count.ensures, c.reserved_for.ensures, c.app.ensures, c.key.ensures)
-    (sym ((λ i. wants_seen _ c.self.invariant c.numbers_rise.ensures.nodes c.args.proposal.now c.args.ask.now (rw (← c.self.view_is) at c.requires.ask) i || off i) ∙ or_false _))
+    (sym ((λ i. wants_seen _ c.self.invariant.consistent c.numbers_rise.ensures.nodes c.args.proposal.now c.args.ask.now (rw (← c.self.view_is) at c.requires.ask) i || off i) ∙ or_false _))
 
 pub numbers_rise-requires : goal.numbers_rise-requires
 numbers_rise-requires g c = search nodes_in_cluster

@@ -1,5 +1,7 @@
-use Rattle.cap_tree.proofs.Prelude.{rules, ◌≡◌, ◌∙◌, sym, refl, subst, None, IsPart, count_in, moved_above, moved_at, AreRows}
+use Rattle.cap_tree.proofs.Prelude.{rules, ◌≡◌, ◌<◌, ◌⊎◌, ◌∙◌, sym, refl, subst, None, IsPart, count_in, moved_above, moved_at, AreRows}
 use Rattle.cap_tree.proofs.Callers.{row_holds, holds_of_row}
+use Rattle.cap_tree.specs.Counted.{AreWaiting}
+use Rattle.cap_tree.proofs.Waits.{waiting_kept}
 use Rattle.cap_tree.proofs.Listings.{rows_kept}
 use Rattle.cap_tree.proofs.RowPaths.{changed_rows}
 use Rattle.cap_tree.proofs.Sizes.{path_fits, queue_fits}
@@ -20,6 +22,7 @@ invariant_of-self-2 g c =
     record {
       rows_are = subst AreRows (sym c.in-Ok.ensures.changed) (rows_kept above at (λ r. refl) (λ r. refl) (λ q. refl) (λ q. refl) c.as_slice.result.now c.self.inside.root c.self.invariant.rows_are);
       start_is = c.self.invariant.start_is;
+      waiting_are = subst AreWaiting (sym c.in-Ok.ensures.changed) (waiting_kept above at (λ q. refl) (λ q. refl) (λ q. refl) (λ q. refl) (λ q. refl) (λ q. refl) c.as_slice.result.now c.self.inside.root c.self.invariant.waiting_are (rw c.as_slice.ensures (rw (← c.self.view_is) at c.requires.position)));
     }
 
 pub returns-clause-ok : goal.returns-clause-ok
@@ -29,15 +32,16 @@ returns-clause-ok g c =
     rw (← c.self.view_is, ← c.as_slice.ensures)
     (c.in-Ok.ensures.changed ∙ changed_rows above at c.as_slice.result.now c.self.inside.root c.self.invariant.rows_are.paths (rw c.as_slice.ensures (rw (← c.self.view_is) at c.requires.position)))
 
-pub returns-in-Err-clause-absent : goal.returns-in-Err-clause-absent
-returns-in-Err-clause-absent g c =
-    rw (← c.self.view_is, ← c.as_slice.ensures) (holds_of_row c.args.change.now.user.now c.as_slice.result.now c.self.inside.root (λ row. row ≡ None) c.in-Err.ensures.grows)
+pub returns-in-Err-clause-grows : goal.returns-in-Err-clause-grows
+returns-in-Err-clause-grows g c =
+    rw (← c.self.view_is, ← c.as_slice.ensures)
+    (holds_of_row c.args.change.now.user.now c.as_slice.result.now c.self.inside.root (λ row. (row ≡ None) ⊎ (c.args.change.now.old.active < c.args.change.now.new.active)) c.in-Err.ensures.grows)
 
 pub as_slice-requires : goal.as_slice-requires
 as_slice-requires g c = search path_fits
 
 pub invariant_of-self : goal.invariant_of-self
-invariant_of-self g c = record { rows_are = subst AreRows (sym c.in-Err.ensures.unchanged) c.self.invariant.rows_are; start_is = c.self.invariant.start_is }
+invariant_of-self g c = record { rows_are = subst AreRows (sym c.in-Err.ensures.unchanged) c.self.invariant.rows_are; start_is = c.self.invariant.start_is; waiting_are = subst AreWaiting (sym c.in-Err.ensures.unchanged) c.self.invariant.waiting_are }
 
 pub returns-in-Err-clause-err : goal.returns-in-Err-clause-err
 returns-in-Err-clause-err g c = rw (← c.self.view_is) c.in-Err.ensures.unchanged

@@ -1,4 +1,5 @@
 use Rattle.cap_tree.proofs.Prelude.{◌∙◌, sym, subst, AreRows}
+use Rattle.cap_tree.specs.Counted.{AreWaiting}
 use Rattle.cap_tree.proofs.Copies.{made-itself}
 use Rattle.cap_tree.proofs.Sizes.{path_fits, queue_fits}
 use Rattle.cap_tree.proofs.tree.QueueTree.copy_in.Goals as goal
@@ -7,6 +8,7 @@ pub invariant_of-result : goal.invariant_of-result
 invariant_of-result g c = record {
   rows_are = subst AreRows (sym (c.in-Ok.ensures ∙ made-itself c.self.inside.root)) c.self.invariant.rows_are;
   start_is = record { empty = c.new.ensures.items; room = c.new.ensures.capacity };
+  waiting_are = subst AreWaiting (sym (c.in-Ok.ensures ∙ made-itself c.self.inside.root)) c.self.invariant.waiting_are;
 }
 
 pub returns-in-Ok : goal.returns-in-Ok

@@ -1,6 +1,7 @@
 use Rattle.cap_tree.proofs.Sizes.{row_fits}
-use Rattle.cap_tree.proofs.Prelude.{arith, ◌∙◌, ◌≡◌, ◌∷◌, ◌++◌, ◌-◌, ap, refl, sym, subst, take, drop, length, IsListing, IsGrowing, queues_of}
+use Rattle.cap_tree.proofs.Prelude.{arith, ◌∙◌, ◌≡◌, ◌∷◌, ◌++◌, ◌-◌, ap, refl, sym, subst, take, drop, length, [], AreSpots, of_tree, Queue, IsListing, IsGrowing, queues_of}
 use Rattle.cap_tree.proofs.Growing.{start, finished, none_listed, split_list, unused_stored, unused_own}
+use Rattle.cap_tree.proofs.Waits.{none_waiting}
 use Rattle.cap_tree.proofs.tree.QueueTree.from_config.Goals as goal
 
 pub unreachable-requires : goal.unreachable-requires
@@ -22,7 +23,13 @@ add_all-requires g c =
     let all = ap length e in
     let root = ap length c.leaf-root.ensures in (
       (search),
-      (search row_fits, (subst (λ r. IsGrowing g.row.K r others) (sym c.leaf-root.ensures) s.growing, omega (arith, few, all, root))),
+      (
+        search row_fits,
+        (
+          subst (λ r. IsGrowing g.row.K r others) (sym c.leaf-root.ensures) s.growing,
+          (omega (arith, few, all, root), subst (AreSpots (λ (q : Queue). q.name)) (sym c.leaf-root.ensures) (of_tree c.in-Ok.queue [] (λ i lt. absurd (omega (arith, lt))))),
+        ),
+      ),
     )
 
 pub same-root : goal.same-root
@@ -39,7 +46,7 @@ invariant_of-result g c =
     let l = subst IsListing (sym c.queues.ensures.rows) c.queues.ensures.listing in
     let s = start g.row.K qs others c.first-item.result c.in-Ok.queue e l c.in-Ok.ensures.0 c.in-Ok.ensures.1 in
     let q : queues_of c.add_all.new.root ≡ qs = c.in-Ok-add_all.ensures.queues ∙ ap (λ r. queues_of r ++ others) c.leaf-root.ensures ∙ ap (λ x. x ++ others) s.queues ∙ sym e in
-    record { rows_are = finished g.row.K c.add_all.new.root qs c.in-Ok-add_all.ensures.grown q l; start_is = record { empty = c.new-2.ensures.items; room = c.new-2.ensures.capacity } }
+    record { rows_are = finished g.row.K c.add_all.new.root qs c.in-Ok-add_all.ensures.grown q l; start_is = record { empty = c.new-2.ensures.items; room = c.new-2.ensures.capacity }; waiting_are = none_waiting g.row.K c.add_all.new.root c.add_all.ensures.tree c.in-Ok-add_all.ensures.grown.unused }
 
 pub returns-clause-queues : goal.returns-clause-queues
 returns-clause-queues g c =
@@ -53,11 +60,11 @@ returns-clause-queues g c =
 pub leaf-root-requires-room-T-TreeItem : goal.leaf-root-requires-room-T-TreeItem
 leaf-root-requires-room-T-TreeItem g c κs within = search
 
-pub drop-root-inside-requires-in-Err-add_all-5-room-T-Destruct-2 : goal.drop-root-inside-requires-in-Err-add_all-5-room-T-Destruct-2
-drop-root-inside-requires-in-Err-add_all-5-room-T-Destruct-2 g c κs within = search
+pub drop-root-inside-requires-in-Err-add_all-6-room-T-Destruct-2 : goal.drop-root-inside-requires-in-Err-add_all-6-room-T-Destruct-2
+drop-root-inside-requires-in-Err-add_all-6-room-T-Destruct-2 g c κs within = search
 
-pub drop-root-inside-requires-in-Err-add_all-5-room-T-Destruct : goal.drop-root-inside-requires-in-Err-add_all-5-room-T-Destruct
-drop-root-inside-requires-in-Err-add_all-5-room-T-Destruct g c κs within = search
+pub drop-root-inside-requires-in-Err-add_all-6-room-T-Destruct : goal.drop-root-inside-requires-in-Err-add_all-6-room-T-Destruct
+drop-root-inside-requires-in-Err-add_all-6-room-T-Destruct g c κs within = search
 
 pub leaf-root-requires-room-T-Destruct : goal.leaf-root-requires-room-T-Destruct
 leaf-root-requires-room-T-Destruct g c κs within = search

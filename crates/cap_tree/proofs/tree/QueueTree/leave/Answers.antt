@@ -1,4 +1,4 @@
-use Rattle.cap_tree.proofs.Prelude.{sym, subst, Count, IsPart, MayLeave, count_in, HasRoomAtRoot, user_row_at}
+use Rattle.cap_tree.proofs.Prelude.{ap, arith, inl, inr, sym, subst, Count, IsPart, MayLeave, count_in, HasRoomAtRoot, user_row_at}
 use Rattle.cap_tree.proofs.Callers.{leaving_part, room_falling, there_holds}
 use Rattle.cap_tree.proofs.Sizes.{count_fits, move_fits}
 use Rattle.cap_tree.proofs.tree.QueueTree.leave.Goals as goal
@@ -13,7 +13,7 @@ change-requires g c =
     ((search), ((search), (search move_fits, (position, (fits, within)))))
 
 pub unreachable-requires : goal.unreachable-requires
-unreachable-requires g c = subst (MayLeave) c.in_default.ensures.absent c.requires
+unreachable-requires g c = elim c.in_default.ensures.grows [ inl none ↦ subst (MayLeave) none c.requires | inr more ↦ let old = ap (λ (x : Count). x.active) c.app.ensures in let new = ap (λ (x : Count). x.active) c.zero.ensures in omega (arith, more, old, new) ]
 
 pub zero-requires : goal.zero-requires
 zero-requires g c = search count_fits

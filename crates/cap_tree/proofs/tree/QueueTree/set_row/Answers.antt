@@ -1,4 +1,7 @@
 use Rattle.cap_tree.proofs.Prelude.{◌≡◌, rules, arith, ◌∙◌, sym, subst, inl, with_settings, AreRows, path_at, IsPosition}
+use Rattle.std.proofs.Common.{refl}
+use Rattle.cap_tree.specs.Counted.{AreWaiting}
+use Rattle.cap_tree.proofs.Waits.{waiting_kept}
 use Rattle.cap_tree.proofs.Callers.{never_grows}
 use Rattle.cap_tree.proofs.Listings.{row_rows, row_kept}
 use Rattle.cap_tree.proofs.RowPaths.{changed_rows}
@@ -15,6 +18,7 @@ invariant_of-self g c =
       rows_are = subst AreRows (sym c.in-Ok.ensures.changed)
           (row_kept c.args.row.now position c.self.inside.root c.requires.factor (row_rows c.args.row.now position (path_at position c.self.inside.root) c.self.inside.root path same) c.self.invariant.rows_are);
       start_is = c.self.invariant.start_is;
+      waiting_are = subst AreWaiting (sym c.in-Ok.ensures.changed) (waiting_kept (λ x. x) (with_settings c.args.row.now) (λ q. refl) (λ q. refl) (λ q. refl) (λ q. refl) (λ q. refl) (λ q. refl) position c.self.inside.root c.self.invariant.waiting_are there);
     }
 
 pub returns : goal.returns

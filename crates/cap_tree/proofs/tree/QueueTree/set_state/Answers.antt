@@ -1,4 +1,7 @@
 use Rattle.cap_tree.proofs.Prelude.{arith, ◌∙◌, sym, subst, inl, with_running, AreRows, path_at, IsPosition}
+use Rattle.std.proofs.Common.{refl}
+use Rattle.cap_tree.specs.Counted.{AreWaiting}
+use Rattle.cap_tree.proofs.Waits.{waiting_kept}
 use Rattle.cap_tree.proofs.Callers.{never_grows}
 use Rattle.cap_tree.proofs.Listings.{state_rows, state_kept}
 use Rattle.cap_tree.proofs.RowPaths.{changed_rows}
@@ -14,6 +17,7 @@ invariant_of-self g c =
       rows_are = subst AreRows (sym c.in-Ok.ensures.changed)
           (state_kept c.args.running position (path_at position c.self.inside.root) c.self.inside.root (state_rows c.args.running position (path_at position c.self.inside.root) c.self.inside.root same) c.self.invariant.rows_are);
       start_is = c.self.invariant.start_is;
+      waiting_are = subst AreWaiting (sym c.in-Ok.ensures.changed) (waiting_kept (λ x. x) (with_running c.args.running) (λ q. refl) (λ q. refl) (λ q. refl) (λ q. refl) (λ q. refl) (λ q. refl) position c.self.inside.root c.self.invariant.waiting_are there);
     }
 
 pub returns : goal.returns

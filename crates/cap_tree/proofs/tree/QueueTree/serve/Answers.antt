@@ -1,0 +1,48 @@
+use Rattle.cap_tree.proofs.Prelude.{◌∙◌, arith, sym, subst, refl, inl, AreRows}
+use Rattle.cap_tree.proofs.Callers.{never_grows}
+use Rattle.cap_tree.proofs.Listings.{rows_kept}
+use Rattle.cap_tree.proofs.RowPaths.{changed_rows}
+use Rattle.cap_tree.proofs.Sizes.{path_fits, queue_fits}
+use Rattle.cap_tree.proofs.Waits.{member_there, served_there, waiting_one_less}
+use Rattle.cap_tree.specs.Counted.{AreWaiting}
+use Rattle.cap_tree.specs.Queue.{served_above, waiting_less}
+use Rattle.cap_tree.proofs.tree.QueueTree.serve.Goals as goal
+
+pub as_slice-requires : goal.as_slice-requires
+as_slice-requires g c = search path_fits
+
+pub change-requires-clause-can : goal.change-requires-clause-can
+change-requires-clause-can g c =
+    let member = rw (← c.self.view_is, ← c.as_slice.ensures) at c.requires in
+    served_there c.args.number c.as_slice.result.now c.self.inside.root c.self.invariant.waiting_are member
+
+pub change-requires-clause-within : goal.change-requires-clause-within
+change-requires-clause-within g c m = inl (omega arith)
+
+pub unreachable-requires : goal.unreachable-requires
+unreachable-requires g c = never_grows c.as_slice.result.now c.self.inside.root c.in_default.ensures.grows
+
+pub invariant_of-self : goal.invariant_of-self
+invariant_of-self g c =
+    let member = rw (← c.self.view_is, ← c.as_slice.ensures) at c.requires in
+    record {
+      rows_are = subst AreRows (sym c.in-Ok.ensures.changed) (rows_kept served_above (waiting_less c.args.number) (λ r. refl) (λ r. refl) (λ q. refl) (λ q. refl) c.as_slice.result.now c.self.inside.root c.self.invariant.rows_are);
+      start_is = c.self.invariant.start_is;
+      waiting_are = subst AreWaiting (sym c.in-Ok.ensures.changed) (waiting_one_less c.args.number c.as_slice.result.now c.self.inside.root c.self.invariant.waiting_are (member_there c.args.number c.as_slice.result.now c.self.inside.root member) member);
+    }
+
+pub returns : goal.returns
+returns g c =
+    let member = rw (← c.self.view_is, ← c.as_slice.ensures) at c.requires in
+    rw (← c.self.view_is, ← c.as_slice.ensures)
+    (c.in-Ok.ensures.changed
+    ∙ changed_rows served_above (waiting_less c.args.number) c.as_slice.result.now c.self.inside.root c.self.invariant.rows_are.paths (member_there c.args.number c.as_slice.result.now c.self.inside.root member))
+
+pub change-requires-room-T-TreeItem : goal.change-requires-room-T-TreeItem
+change-requires-room-T-TreeItem g c κs within = search queue_fits
+
+pub change-requires-room-T-Destruct : goal.change-requires-room-T-Destruct
+change-requires-room-T-Destruct g c κs within = search queue_fits
+
+pub change-requires-room-C-Change : goal.change-requires-room-C-Change
+change-requires-room-C-Change g c κs within = search queue_fits
