@@ -1,0 +1,5 @@
+use Rattle.cap_world.proofs.Promises.{keeps_promises}
+use Rattle.cap_world.proofs.world.World.from_config.Goals as goal
+
+pub returns-in-Ok-clause-promised : goal.returns-in-Ok-clause-promised
+returns-in-Ok-clause-promised c = ?
