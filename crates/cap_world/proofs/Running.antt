@@ -1,5 +1,5 @@
 -- Steps made one after the other: their headline, and the attempts of a run.
-use Rattle.cap_world.proofs.Prelude.{◌≡◌, ℕ, ◌<◌, ◌+◌, List, [], ◌∷◌, ◌++◌, length, get_or, take, Result, Ok, Err, true, false, is_err, refl, sym, subst, arith, append-nil, map-append, take_more, slice_get_past, slice_get-get_or, resources, Event, Flat, Step, Did, NoMemory, calls_by, WorldState, IsLawful, connection_at, is_open, output_of, start, StepOutcome, Attempt, performed, starved, all_performed, attempts_of, ComesTo, Makes, MadeStepsHaveTheHeadline, Hearing, unopened, Hears}
+use Rattle.cap_world.proofs.Prelude.{◌≡◌, ℕ, ◌<◌, ◌+◌, List, [], ◌∷◌, ◌++◌, length, get_or, take, Result, Ok, Err, true, false, is_err, refl, sym, ap, subst, ◌∙◌, arith, append_assoc, append-nil, map-append, take_more, slice_get_past, slice_get-get_or, resources, Event, Flat, Step, Did, NoMemory, calls_by, Known, Adds, WorldState, IsLawful, connection_at, is_open, output_of, start, StepOutcome, Attempt, performed, starved, all_performed, attempts_of, ComesTo, Makes, MadeStepsHaveTheHeadline, Hearing, unopened, Hears}
 use Rattle.cap_world.proofs.Heard.{Agrees, hears_attempt, is_heard}
 use Rattle.cap_world.proofs.Lawful.{Goes, outcome_goes}
 
@@ -45,6 +45,23 @@ made_cut all i d r old mid new before between after below made failed outcome =
     let refused = was_refused r failed in
     rw (slice_get-get_or all i d below)
     (makes_more (all_performed (take i all)) (starved (get_or all i d)) old mid new before between after made (refused.0, as_answered (get_or all i d) r (Err refused.0) mid new between after refused.1 outcome))
+
+-- ---- the events of a world and those that are lent
+
+pub adds_none : (world : Known) (events : List (Event resources)) → Adds world world events events
+adds_none world events = record { opening = refl; more = []; lent = sym (append-nil events); kept = sym (append-nil world.events) }
+
+pub adds_then : (old mid new : Known) (before between after : List (Event resources)) → Adds old mid before between → Adds mid new between after → Adds old new before after
+adds_then old mid new before between after first second = record {
+  opening = second.opening ∙ first.opening;
+  more = first.more ++ second.more;
+  lent = second.lent ∙ ap (λ (es : List (Event resources)). es ++ second.more) first.lent ∙ append_assoc before first.more second.more;
+  kept = second.kept ∙ ap (λ (es : List (Event resources)). es ++ second.more) first.kept ∙ append_assoc old.events first.more second.more;
+}
+
+-- from an opening on the world's events are those that were lent
+pub same_events : (opening : Flat resources) (new : Known) (after : List (Event resources)) → Adds (start opening) new [] after → new.events ≡ after
+same_events opening new after adds = adds.kept ∙ sym adds.lent
 
 -- ---- steps that were made have the headline
 

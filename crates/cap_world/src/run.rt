@@ -1,6 +1,6 @@
 //! Steps made one after the other over an opening cluster (`World::run`), with the headline as its contract.
 ghost use Rattle.std.specs.Prelude.{◌≡◌, ◌≤◌, [], length, is_err};
-ghost use Rattle.cap_world.specs.World.{start, is_open, output_of};
+ghost use Rattle.cap_world.specs.World.{Adds, start, is_open, output_of};
 ghost use Rattle.cap_model.specs.Bounds.{IsBounded};
 ghost use Rattle.cap_world.specs.Making.{Makes};
 ghost use Rattle.cap_world.specs.Hearing.{attempts_of, IsHeadline};
@@ -41,21 +41,28 @@ impl World {
     {
         let mut world = World::open(alloc, opening);
         let mut events = Vec::new(alloc);
-        for (i, step) in steps.iter().enumerate() {
-            let made = world.step(*step, &mut events);
-            if ends_run(&made) {
-                return Outcome {
-                    world,
-                    events,
-                    done: i,
-                };
-            }
-        }
+        let done = world.make_all(steps, &mut events);
         Outcome {
             world,
             events,
-            done: steps.len(),
+            done,
         }
+    }
+
+    /// Makes the steps one after the other, up to the first for which an allocation fails. The result is how many come before it.
+    fn make_all(&mut self, steps: &[Step], events: &mut Vec<Event<RESOURCES>>) -> usize
+        ensures done { result ≤ length steps.now }
+        ensures made { Makes (attempts_of steps.now result) self.old.sight self.new.sight
+            events.old.items events.new.items }
+        ensures adds { Adds self.old self.new events.old.items events.new.items }
+    {
+        for (i, step) in steps.iter().enumerate() {
+            let made = self.step(*step, events);
+            if ends_run(&made) {
+                return i;
+            }
+        }
+        steps.len()
     }
 }
 
