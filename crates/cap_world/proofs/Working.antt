@@ -230,7 +230,7 @@ left_choice : (w start : ℕ) (old new : WorldState) (before after : List (Event
 left_choice w start old new before after has =
     let o = has.comes.1 in
     let stands : choice_of w new ≡ choice_from (sight_of old.cluster) start = ap (choice_of w) o.1 ∙ has.choice in (
-      subst (λ (x : Option NodeProposal). IsSome x) (sym o.0.choice ∙ has.choice) tt,
+      subst (λ (x : Option NodeProposal). IsSome x) (sym o.0.choice ∙ has.choice) refl,
       stands,
       ap (λ (x : WorldState). x.cluster) o.1 ∙ has.cluster,
       o.2 ∙ has.events,

@@ -79,6 +79,8 @@ impl World {
         ensures opened { IfOk result (λ world. world ≡ start (opened_cluster config.now)) }
         ensures promised { KeepsPromises (opened_cluster config.now) }
     {
+        // The queues of settings are listed: for that the cluster is bounded.
+        let _listed = config.queues();
         match Cluster::from_config(alloc, config) {
             Ok(cluster) => Ok(World::open(alloc, cluster)),
             Err(NoMemory) => Err(NoMemory),
