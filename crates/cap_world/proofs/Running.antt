@@ -59,9 +59,20 @@ adds_then old mid new before between after first second = record {
   kept = second.kept ∙ ap (λ (es : List (Event resources)). es ++ second.more) first.kept ∙ append_assoc old.events first.more second.more;
 }
 
--- from an opening on the world's events are those that were lent
-pub same_events : (opening : Flat resources) (new : Known) (after : List (Event resources)) → Adds (start opening) new [] after → new.events ≡ after
-same_events opening new after adds = adds.kept ∙ sym adds.lent
+-- what became of a world that was opened just now, and of events that were none
+pub record FromStart (opened : Flat resources) (attempts : List Attempt) (new : Known) (after : List (Event resources)) : Type 0 where
+  pub opening : new.opening ≡ opened
+  pub events : new.events ≡ after
+  pub made : Makes attempts (start opened).sight new.sight [] after
+
+pub from_start : (opening : Flat resources) (attempts : List Attempt) (old new : Known) (before after : List (Event resources)) → old ≡ start opening → before ≡ [] → Adds old new before after → Makes attempts old.sight new.sight before after → FromStart opening attempts new after
+from_start opening attempts old new before after opened none adds made =
+    let kept : Adds (start opening) new [] after = subst (λ (w : Known). Adds w new [] after) opened (subst (λ (es : List (Event resources)). Adds old new es after) none adds) in
+    record {
+      opening = kept.opening;
+      events = kept.kept ∙ sym kept.lent;
+      made = subst (λ (w : Known). Makes attempts w.sight new.sight [] after) opened (subst (λ (es : List (Event resources)). Makes attempts old.sight new.sight es after) none made);
+    }
 
 -- ---- steps that were made have the headline
 
