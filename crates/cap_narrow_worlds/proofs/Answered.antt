@@ -1,5 +1,5 @@
 -- What answers payloads by some calls answers them, in the grammar of two resources, by these calls without the third.
-use Rattle.cap_narrow_worlds.proofs.Prelude.{◌≡◌, ℕ, Bool, true, false, List, [], ◌∷◌, ◌++◌, refl, sym, subst, map, All, All-nil, All-cons, All-head, All-tail, resources, Tail, kind_of, IsReply, Call, Answers, nothing, replied, refused, AnswersAll, AnswersSome, Hearing, unopened, live, over, cut, IsHeard, IsNotOfVersion2, HaveNoVersion2, HeardNoVersion2}
+use Rattle.cap_narrow_worlds.proofs.Prelude.{◌≡◌, ℕ, Bool, List, [], ◌∷◌, ◌++◌, refl, sym, subst, map, All, All-nil, All-cons, All-head, All-tail, resources, Tail, kind_of, IsReply, Call, Answers, nothing, replied, refused, AnswersAll, AnswersSome, Hearing, unopened, live, over, cut, IsHeard, IsNotOfVersion2, HaveNoVersion2, HeardNoVersion2}
 use Rattle.cap_narrow_worlds.proofs.Calls.{narrow_call, CallSpellsNone}
 use Rattle.cap_narrow_worlds.proofs.Spelled.{request_narrow, reply_narrow, none_narrow, kind_narrow}
 

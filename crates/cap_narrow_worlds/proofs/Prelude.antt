@@ -1,11 +1,11 @@
 -- What the proofs here take from elsewhere.
-pub use Rattle.std.proofs.Common.{Bool, List, None, Option, Some, [], ap, append-nil, arith, false, inl, inr, length, refl, subst, suc, sym, take, true, zero, ℕ, ◌++◌, ◌∙◌, ◌∷◌, ◌≡◌, ◌≤◌}
+pub use Rattle.std.proofs.Common.{Bool, List, None, Option, Some, [], ap, arith, false, inl, inr, refl, subst, suc, sym, take, true, zero, ℕ, ◌++◌, ◌∙◌, ◌∷◌, ◌≡◌, ◌≤◌}
 pub use Rattle.std.proofs.lemmas.Bool.{and_parts, cases_Bool, eq-eqb, eqb-true}
 pub use Rattle.std.proofs.lemmas.List.{length-map}
 pub use Rattle.std.proofs.lemmas.List.Elements.{All-cons, All-head, All-nil, All-tail}
 pub use Rattle.std.specs.Int.{to_be_bytes, w16, w32}
 pub use Rattle.std.specs.List.{All, AllByRecursion, cons_option, flat_map}
-pub use Rattle.std.specs.Prelude.{IfSome, MatchBool, if◌then◌else◌, map, option_map, slice_get, ◌==◌, ◌||◌}
+pub use Rattle.std.specs.Prelude.{IfSome, if◌then◌else◌, map, option_map, ◌==◌, ◌||◌}
 pub use Rattle.cap_base.specs.Limits.{asks_max, news_max, resources}
 pub use Rattle.cap_frames.specs.Stream.{Tail}
 pub use Rattle.cap_grammar.specs.Shown.{IsShownVector}

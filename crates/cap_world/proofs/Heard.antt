@@ -1,5 +1,5 @@
 -- What each connection heard of the steps that were made, and what it was answered for it.
-use Rattle.cap_world.proofs.Prelude.{◌≡◌, ◌≢◌, ◌<◌, ℕ, Bool, true, false, List, [], ◌∷◌, ◌++◌, Option, Some, None, Ok, Err, IsSome, refl, sym, ap, subst, ◌∙◌, append_assoc, append-nil, inl, inr, All-nil, ◌⊎◌, ◌==◌, if◌then◌else◌, MatchBool, cases_Bool, eqb-true, resources, Event, Flat, rest, fault, IsStream, IsBytes, stream_goes_on, Standing, Step, Did, SessionCause, Call, SessionState, AnswersBy, IsSession, AnswersSome, Connection, new_connection, is_open_standing, AnswersAs, HasAnswers, Feeds, StandsAfter, WorldState, connection_at, is_open, is_open_connection, output_of, output_from, Changes, HasAnswersAt, StepOutcome, NoMemory, Hearing, unopened, live, over, cut, cut_short, Attempt, performed, starved, ComesTo, opened, ended, HearsPiece, HearsStep, after_starved, HearsAttempt, IsHeard}
+use Rattle.cap_world.proofs.Prelude.{◌≡◌, ◌≢◌, ◌<◌, ℕ, Bool, true, false, List, [], ◌++◌, Option, Some, None, Ok, Err, IsSome, refl, sym, ap, subst, ◌∙◌, append_assoc, append-nil, inl, inr, All-nil, ◌⊎◌, ◌==◌, if◌then◌else◌, MatchBool, cases_Bool, eqb-true, resources, Event, Flat, rest, fault, IsStream, IsBytes, stream_goes_on, Standing, Step, Did, SessionCause, Call, SessionState, AnswersBy, IsSession, AnswersSome, Connection, new_connection, is_open_standing, AnswersAs, Feeds, StandsAfter, WorldState, connection_at, is_open, is_open_connection, output_from, Changes, HasAnswersAt, StepOutcome, NoMemory, Hearing, unopened, live, over, cut, cut_short, Attempt, performed, starved, ComesTo, opened, ended, HearsPiece, HearsStep, after_starved, HearsAttempt, IsHeard}
 use Rattle.cap_world.specs.declared.connection.Standing.TheVariants as standings
 use Rattle.cap_world.specs.declared.step.Step.TheVariants as steps
 use Rattle.cap_world.specs.declared.step.Did.TheVariants as dids

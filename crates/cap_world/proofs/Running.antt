@@ -1,5 +1,5 @@
 -- Steps made one after the other: their headline, and the attempts of a run.
-use Rattle.cap_world.proofs.Prelude.{◌≡◌, ℕ, ◌<◌, ◌+◌, List, [], ◌∷◌, ◌++◌, length, get_or, take, Result, Ok, Err, true, false, is_err, refl, sym, ap, subst, ◌∙◌, arith, append_assoc, append-nil, map-append, take_more, slice_get_past, slice_get-get_or, resources, Event, Flat, Step, Did, NoMemory, calls_by, Known, Adds, WorldState, IsLawful, connection_at, is_open, output_of, start, StepOutcome, Attempt, performed, starved, all_performed, attempts_of, ComesTo, Makes, MadeStepsHaveTheHeadline, Hearing, unopened, Hears}
+use Rattle.cap_world.proofs.Prelude.{◌≡◌, ℕ, ◌<◌, ◌+◌, List, [], ◌∷◌, ◌++◌, length, get_or, take, Result, Ok, Err, true, false, is_err, refl, sym, ap, subst, ◌∙◌, arith, append_assoc, append-nil, map-append, take_more, slice_get_past, slice_get-get_or, resources, Event, Flat, Step, Did, NoMemory, calls_by, Known, Adds, WorldState, IsLawful, connection_at, start, StepOutcome, Attempt, performed, starved, all_performed, attempts_of, ComesTo, Makes, MadeStepsHaveTheHeadline, Hearing, unopened, Hears}
 use Rattle.cap_world.proofs.Heard.{Agrees, hears_attempt, is_heard}
 use Rattle.cap_world.proofs.Lawful.{Goes, outcome_goes}
 
