@@ -8,10 +8,10 @@ use cap_grammar::{MessageFault, read_reply, read_request};
 use indexmap::IndexMap;
 use std::alloc::{AllocError, Global};
 
-/// What came on each connection of frames that are not whole yet.
+/// What came on each connection of frames that are not whole yet. On one that has ended nothing comes any more (`None`).
 #[derive(Drop)]
 pub(crate) struct Explainer {
-    streams: IndexMap<u64, Framer>,
+    streams: IndexMap<u64, Option<Framer>>,
 }
 
 impl Explainer {
@@ -27,20 +27,18 @@ impl Explainer {
         let mut words = String::new(alloc);
         match line_of(line) {
             Line::Other => {}
-            Line::Open(connection) => {
-                let Ok(framer) = Framer::new(alloc) else {
-                    return Err(AllocError);
-                };
-                let Ok(_) = self.streams.insert(connection, framer) else {
-                    return Err(AllocError);
-                };
-            }
+            Line::Open(connection) => self.open(alloc, connection)?,
+            Line::End(connection) => self.end(connection),
             Line::Bytes(connection, digits) => {
                 let Some(piece) = bytes_of(alloc, digits)? else {
                     return Ok(words);
                 };
-                if let Some(framer) = self.streams.get_mut(&connection) {
-                    put_requests(alloc, &mut words, connection, framer, &piece)?;
+                let Some(Some(framer)) = self.streams.get_mut(&connection) else {
+                    return Ok(words);
+                };
+                let goes_on = put_requests(alloc, &mut words, connection, framer, &piece)?;
+                if !goes_on {
+                    self.end(connection);
                 }
             }
             Line::Out(connection, digits) => {
@@ -50,6 +48,27 @@ impl Explainer {
             }
         }
         Ok(words)
+    }
+
+    /// A connection opens, if its number was never opened.
+    fn open(&mut self, alloc: Global, connection: u64) -> Result<(), AllocError> {
+        if self.streams.contains_key(&connection) {
+            return Ok(());
+        }
+        let Ok(framer) = Framer::new(alloc) else {
+            return Err(AllocError);
+        };
+        match self.streams.insert(connection, Some(framer)) {
+            Ok(_) => Ok(()),
+            Err(_) => Err(AllocError),
+        }
+    }
+
+    /// A connection ends, if it was opened.
+    fn end(&mut self, connection: u64) {
+        if let Some(stream) = self.streams.get_mut(&connection) {
+            *stream = None;
+        }
     }
 }
 
@@ -63,23 +82,24 @@ fn bytes_of(alloc: Global, digits: &[u8]) -> Result<Option<Vec<u8>>, AllocError>
     }
 }
 
-/// The requests that a piece completes.
+/// The requests that a piece completes. Whether more may come: not after a length that no frame has.
 fn put_requests(
     alloc: Global,
     words: &mut String,
     connection: u64,
     framer: &mut Framer,
     piece: &[u8],
-) -> Result<(), AllocError> {
+) -> Result<bool, AllocError> {
     let Ok(()) = framer.feed(piece) else {
         return Err(AllocError);
     };
     loop {
         match framer.next() {
             Ok(Some(payload)) => put_payload(alloc, words, connection, payload.as_slice())?,
-            Ok(None) => return Ok(()),
+            Ok(None) => return Ok(true),
             Err(FrameFault::BadLength) => {
-                return write!(words, "# {connection} -> no frame has this length\n");
+                write!(words, "# {connection} -> no frame has this length\n")?;
+                return Ok(false);
             }
             Err(FrameFault::NoMemory) => return Err(AllocError),
         }

@@ -12,6 +12,8 @@ pub(crate) enum Line<'a> {
     Other,
     /// A connection opens.
     Open(u64),
+    /// A connection ends.
+    End(u64),
     /// A piece comes on a connection, in hexadecimal.
     Bytes(u64, &'a [u8]),
     /// A frame is answered on a connection, in hexadecimal.
@@ -23,6 +25,12 @@ pub(crate) fn line_of(line: &[u8]) -> Line<'_> {
     if let Some(number) = line.strip_prefix(b"open ") {
         return match cap_text::number_of(number, DIGITS_MAX) {
             Some(number) => Line::Open(number),
+            None => Line::Other,
+        };
+    }
+    if let Some(number) = line.strip_prefix(b"end ") {
+        return match cap_text::number_of(number, DIGITS_MAX) {
+            Some(number) => Line::End(number),
             None => Line::Other,
         };
     }

@@ -1,6 +1,5 @@
 -- What answers payloads by some calls answers them, in the grammar of two resources, by these calls without the third.
-use Rattle.cap_narrow_worlds.proofs.Prelude.{◌≡◌, ℕ, Bool, true, false, List, [], ◌∷◌, ◌++◌, refl, sym, subst, append-nil, Option, Some, None, ◌==◌, map, MatchBool, if◌then◌else◌, All, All-nil, All-cons, All-head, All-tail, resources, Tail, kind_of, IsReply, Call, Answers, nothing, replied, refused, Step, AnswersAll, AnswersSome, Hearing, unopened, live, over, IsHeard, IsCutShort, IsHeardBefore, IsNotOfVersion2, HaveNoVersion2, HeardNoVersion2, brought_to}
-use Rattle.cap_world.specs.declared.step.Step.TheVariants as steps
+use Rattle.cap_narrow_worlds.proofs.Prelude.{◌≡◌, ℕ, Bool, List, [], ◌∷◌, ◌++◌, refl, sym, subst, map, All, All-nil, All-cons, All-head, All-tail, resources, Tail, kind_of, IsReply, Call, Answers, nothing, replied, refused, AnswersAll, AnswersSome, Hearing, unopened, live, over, cut, IsHeard, IsNotOfVersion2, HaveNoVersion2, HeardNoVersion2}
 use Rattle.cap_narrow_worlds.proofs.Calls.{narrow_call, CallSpellsNone}
 use Rattle.cap_narrow_worlds.proofs.Spelled.{request_narrow, reply_narrow, none_narrow, kind_narrow}
 
@@ -43,34 +42,15 @@ no_calls : (calls : List (Call resources)) → calls ≡ [] → (map narrow_call
 no_calls [] is = (refl, All-nil CallSpellsNone)
 no_calls (call ∷ calls) is = absurd (cc is)
 
-heard_narrow : (heard : Hearing) (calls : List (Call resources)) (output : List ℕ) (is_open : Bool) → HeardNoVersion2 [] heard → IsHeard heard calls output is_open → Narrowed (λ cs. IsHeard heard cs output is_open) calls
+pub heard_narrow : (heard : Hearing) (calls : List (Call resources)) (output : List ℕ) (is_open : Bool) → HeardNoVersion2 heard → IsHeard heard calls output is_open → Narrowed (λ cs. IsHeard heard cs output is_open) calls
 heard_narrow unopened calls output is_open none (is, empty, closed) =
     let no = no_calls calls is in ((no.0, empty, closed), no.1)
 heard_narrow (live taken) calls output is_open none (tail, answers, opens) =
-    let all = all_narrow taken tail calls output (subst HaveNoVersion2 (append-nil taken) none) answers in
+    let all = all_narrow taken tail calls output none answers in
     ((tail, all.0, opens), all.1)
 heard_narrow (over taken) calls output is_open none (tail, answers, closed) =
     let all = all_narrow taken tail calls output none answers in
     ((tail, all.0, closed), all.1)
-
-cut_narrow : (piece : List ℕ) (heard : Hearing) (calls : List (Call resources)) (output : List ℕ) (is_open : Bool) → HeardNoVersion2 piece heard → IsCutShort piece heard calls output is_open → Narrowed (λ cs. IsCutShort piece heard cs output is_open) calls
-cut_narrow piece unopened calls output is_open none is = heard_narrow unopened calls output is_open none is
-cut_narrow piece (over taken) calls output is_open none is = heard_narrow (over taken) calls output is_open none is
-cut_narrow piece (live taken) calls output is_open none (answers, closed) =
-    let some = some_narrow (taken ++ piece) calls output none answers in
+heard_narrow (cut taken) calls output is_open none (answers, closed) =
+    let some = some_narrow taken calls output none answers in
     ((some.0, closed), some.1)
-
--- by the step that was refused memory, if any
-pub before_narrow : (refused : Option Step) (c : ℕ) (heard : Hearing) (calls : List (Call resources)) (output : List ℕ) (is_open : Bool) → HeardNoVersion2 (brought_to c refused) heard → IsHeardBefore refused c heard calls output is_open → Narrowed (λ cs. IsHeardBefore refused c heard cs output is_open) calls
-before_narrow None c heard calls output is_open none is = heard_narrow heard calls output is_open none is
-before_narrow (Some (steps.Open d)) c heard calls output is_open none is = heard_narrow heard calls output is_open none is
-before_narrow (Some (steps.End d)) c heard calls output is_open none is = heard_narrow heard calls output is_open none is
-before_narrow (Some (steps.Copy w)) c heard calls output is_open none is = heard_narrow heard calls output is_open none is
-before_narrow (Some (steps.Propose w start)) c heard calls output is_open none is = heard_narrow heard calls output is_open none is
-before_narrow (Some (steps.Commit w)) c heard calls output is_open none is = heard_narrow heard calls output is_open none is
-before_narrow (Some (steps.Bytes d piece)) c heard calls output is_open none is = own (d == c) none is
-  where
-    own : (b : Bool) → HeardNoVersion2 (if b then piece.now else []) heard → MatchBool b (IsCutShort piece.now heard calls output is_open) (IsHeard heard calls output is_open) →
-        Narrowed (λ cs. MatchBool b (IsCutShort piece.now heard cs output is_open) (IsHeard heard cs output is_open)) calls
-    own true none is = cut_narrow piece.now heard calls output is_open none is
-    own false none is = heard_narrow heard calls output is_open none is

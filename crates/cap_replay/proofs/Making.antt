@@ -1,17 +1,9 @@
 -- Steps that a world makes one after the other.
-use Rattle.cap_replay.proofs.Prelude.{◌≡◌, ℕ, List, [], ◌∷◌, ◌++◌, Ok, Err, Result, refl, sym, ap, subst, ◌∙◌, IfOk, OnOk, append_cancel_left, All, All-head, All-tail, resources, Event, Flat, as_events, Connection, Feeds, Step, Did, WorldState, Known, Adds, StepOutcome, Tried, made_by, Makes, IsOpeningLine, Simulation, Stop, BringSteps, at_start, passed, brought, IsStepOf, Advances, Brings}
+use Rattle.cap_replay.proofs.Prelude.{◌≡◌, ℕ, List, [], ◌∷◌, ◌++◌, Ok, Err, Result, refl, sym, ap, subst, ◌∙◌, IfOk, OnOk, append_cancel_left, All, All-head, All-tail, resources, Event, Flat, as_events, Connection, Feeds, Step, Did, WorldState, Known, Adds, StepOutcome, Tried, made_by, IsOpeningLine, Simulation, Stop, BringSteps, at_start, passed, brought, IsStepOf, Advances, Brings}
 use Rattle.std.proofs.Common.{append-nil}
 use denote.Ref.{Bor}
 use Rattle.cap_world.specs.declared.step.Step.TheVariants as steps
 use Rattle.cap_world.specs.declared.step.Did.TheVariants as dids
-
--- one more step
-pub makes_more : (made : List Step) (step : Step) (did : Did) (old mid new : WorldState) (before between after : List (Event resources)) → Makes made old mid before between → StepOutcome step (Ok did) mid new between after → Makes (made ++ step ∷ []) old new before after
-makes_more [] step did old mid new before between after m o =
-    let one : StepOutcome step (Ok did) old new before after = subst (λ (s : WorldState). StepOutcome step (Ok did) s new before after) m.0 (subst (λ (es : List (Event resources)). StepOutcome step (Ok did) mid new es after) m.1 o) in
-    (new, after, did, one, (refl, refl))
-makes_more (s ∷ made) step did old mid new before between after m o =
-    (m.0, m.1, m.2, m.3, makes_more made step did m.0 mid new m.1 between after m.4 o)
 
 nothing_more : (before after more : List (Event resources)) → after ≡ before ++ more → after ≡ before → more ≡ []
 nothing_more before after more grows same = append_cancel_left before more [] (sym grows ∙ same ∙ sym (append-nil before))

@@ -15,7 +15,7 @@ pub use Rattle.std.specs.Str.Lines.{lines, strip_carriage_return}
 pub use Rattle.cap_base.specs.Limits.{resources}
 pub use Rattle.cap_base.specs.declared.properties.fault.ConfigFault.{ConfigFault}
 pub use Rattle.cap_base.specs.properties.First.{AnswersFault, first_fault, settings_in}
-pub use Rattle.cap_model.specs.Flat.{Flat}
+pub use Rattle.cap_model.specs.Flat.{Flat, opened_cluster}
 pub use Rattle.cap_model.specs.declared.event.Event.{Event}
 pub use Rattle.cap_replay.specs.Print.{blanked}
 pub use Rattle.cap_replay.specs.Progress.{FailsAtStep, IsPlayed, IsPlayedOut, MayNotFollow, Reads, Stands, StopsAtStep, whole_line}
@@ -34,9 +34,9 @@ pub use Rattle.cap_text.proofs.Cuts.{first_line, last_line, one_cut}
 pub use Rattle.cap_text.proofs.Digits.{number_digits}
 pub use Rattle.cap_text.specs.Numbers.{is_digit}
 pub use Rattle.cap_text.specs.Pieces.{IsCut, lacks}
+pub use Rattle.cap_world.proofs.Running.{performs_more}
 pub use Rattle.cap_world.specs.Answers.{as_events}
 pub use Rattle.cap_world.specs.Connection.{Connection}
-pub use Rattle.cap_world.specs.Making.{Makes}
 pub use Rattle.cap_world.specs.Serving.{Feeds}
 pub use Rattle.cap_world.specs.Steps.{StepOutcome}
 pub use Rattle.cap_world.specs.Working.{Tried, made_by}

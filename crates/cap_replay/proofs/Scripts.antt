@@ -1,9 +1,9 @@
 -- Scripts line by line.
-use Rattle.cap_replay.proofs.Prelude.{◌≡◌, ◌⊎◌, ℕ, Ok, List, [], ◌∷◌, ◌++◌, refl, sym, ap, ◌∙◌, subst, inl, inr, Option, None, Some, All, fold, filter_map, append_assoc, append-nil, All-nil, All-cons, All-head, All-tail, All-push, All-same, filter_map-append, fold-append, ConfigFault, first_fault, Command, Nothing, Conf, Open, Bytes, End, Copy, Propose, Commit, IsCommand, IsOpeningLine, IsLaterLine, IsStep, IsScript, MayStep, IsStepOrComment, property_of, with_line, properties, settings_text, settings_fault, Step, Did, Known, start, StepOutcome, Simulation, IsStepFor, IsStepOf, IsOpened, HasPlayed, IsWorldOf, HasPlayedAll, Begins, FailsToBegin, MakesStep, Performs, Stands, StopsAtStep}
+use Rattle.cap_replay.proofs.Prelude.{◌≡◌, ◌⊎◌, ℕ, Ok, List, [], ◌∷◌, ◌++◌, refl, sym, ap, ◌∙◌, subst, inl, inr, Option, None, Some, All, fold, filter_map, append_assoc, append-nil, All-nil, All-cons, All-head, All-tail, All-push, All-same, filter_map-append, fold-append, ConfigFault, first_fault, Command, Nothing, Conf, Open, Bytes, End, Copy, Propose, Commit, IsCommand, IsOpeningLine, IsLaterLine, IsStep, IsScript, MayStep, IsStepOrComment, property_of, with_line, properties, settings_text, settings_fault, Step, Did, Known, start, StepOutcome, performs_more, Simulation, IsStepFor, IsStepOf, IsOpened, HasPlayed, IsWorldOf, HasPlayedAll, Begins, FailsToBegin, MakesStep, Performs, Stands, StopsAtStep}
 use denote.Ref.{Bor}
 use Rattle.cap_world.specs.declared.step.Step.TheVariants as steps
 use Rattle.cap_replay.proofs.Commands.{step_never_opens}
-use Rattle.cap_replay.proofs.Making.{bring_none, bring_no_more, bring_more, makes_more}
+use Rattle.cap_replay.proofs.Making.{bring_none, bring_no_more, bring_more}
 
 -- the lines before a last line all open the script, or the last line stands behind the first step
 last_line : (head body front : List (List ℕ)) (line : List ℕ) → front ++ line ∷ [] ≡ head ++ body → All IsOpeningLine head → All IsLaterLine body → (All IsOpeningLine front × IsOpeningLine line) ⊎ IsLaterLine line
@@ -183,7 +183,7 @@ played_step done line step did mid now none is same made played = record {
   opened = rw (unchanged done line none, same) played.opened;
   steps = played.steps ++ step ∷ [];
   brought = bring_more line step is played.brought;
-  made = rw same (makes_more played.steps step did (start mid.opening).sight mid.sight now.sight [] mid.events now.events played.made made);
+  made = rw same (performs_more played.steps step did (start mid.opening).sight mid.sight now.sight [] mid.events now.events played.made made);
 }
 
 pub after_step : (done : List (List ℕ)) (line : List ℕ) (command : Command) (old new : Simulation) → Stands done old → IsCommand line command → Performs command old new → Stands (done ++ line ∷ []) new

@@ -13,6 +13,7 @@ use Rattle.cap_world.specs.declared.step.Step.TheVariants as steps
 use Rattle.cap_world.specs.declared.step.Did.{Did}
 use Rattle.cap_world.specs.World.{Known, start}
 use Rattle.cap_world.specs.Steps.{StepOutcome}
+use Rattle.cap_world.specs.Hearing.{all_performed}
 use Rattle.cap_world.specs.Making.{Makes}
 use Rattle.cap_replay.specs.declared.command.Command.{Command}
 use Rattle.cap_replay.specs.declared.simulation.Simulation.{Simulation}
@@ -62,7 +63,7 @@ pub record HasPlayed (done : List (List ℕ)) (world : Known) : Type 0 where
   pub opened : IsOpenedBy (settings_text (properties done)) world.opening
   pub steps : List Step
   pub brought : BringSteps done steps
-  pub made : Makes steps (start world.opening).sight world.sight [] world.events
+  pub made : Makes (all_performed steps) (start world.opening).sight world.sight [] world.events
 
 -- no step was made where no world stands, and else the world has made those of the lines, at least one
 abbrev pub IsWorldOf : List (List ℕ) → Option Known → Type 0

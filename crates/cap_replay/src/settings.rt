@@ -9,7 +9,6 @@ ghost use Rattle.cap_replay.specs.Streams.{IsOfScript};
 ghost use Rattle.cap_replay.specs.World.{IsNewWorld};
 
 use crate::stop::Stop;
-use cap_commit::Cluster;
 use cap_config::{ConfigFault, ConfigFaultKind, read_config};
 use cap_model::NoMemory;
 use cap_world::World;
@@ -81,8 +80,8 @@ impl Settings {
         ensures script { IfErr result IsOfScript }
     {
         match read_config(self.alloc, self.text()) {
-            Ok(config) => match Cluster::from_config(self.alloc, &config) {
-                Ok(cluster) => Ok(World::open(self.alloc, cluster)),
+            Ok(config) => match World::from_config(self.alloc, &config) {
+                Ok(world) => Ok(world),
                 Err(NoMemory) => Err(Stop::NoMemory),
             },
             Err(fault) => Err(stop_of(fault)),

@@ -1,5 +1,5 @@
 -- What each connection heard of the steps that were made, and what it was answered for it.
-use Rattle.cap_world.proofs.Prelude.{◌≡◌, ◌≢◌, ℕ, ◌+◌, ◌<◌, Bool, true, false, List, [], ◌∷◌, ◌++◌, length, get_or, take, Option, Some, None, Ok, IsSome, refl, sym, ap, subst, ◌∙◌, append_assoc, append-nil, inl, inr, ◌⊎◌, ◌==◌, if◌then◌else◌, MatchBool, cases_Bool, eqb-true, take_more, resources, Event, Flat, rest, fault, IsStream, IsBytes, stream_goes_on, Standing, Step, Did, SessionCause, Call, SessionState, AnswersBy, IsSession, AnswersSome, Connection, new_connection, is_open_standing, AnswersAs, HasAnswers, Feeds, StandsAfter, WorldState, connection_at, is_open, is_open_connection, output_of, output_from, Changes, HasAnswersAt, StepOutcome, Starves, Hearing, unopened, live, over, opened, ended, HearsPiece, HearsStep, Hears, IsHeard, IsCutShort, IsHeardBefore}
+use Rattle.cap_world.proofs.Prelude.{◌≡◌, ◌≢◌, ◌<◌, ℕ, Bool, true, false, List, [], ◌++◌, Option, Some, None, Ok, Err, IsSome, refl, sym, ap, subst, ◌∙◌, append_assoc, append-nil, inl, inr, All-nil, ◌⊎◌, ◌==◌, if◌then◌else◌, MatchBool, cases_Bool, eqb-true, resources, Event, Flat, rest, fault, IsStream, IsBytes, stream_goes_on, Standing, Step, Did, SessionCause, Call, SessionState, AnswersBy, IsSession, AnswersSome, Connection, new_connection, is_open_standing, AnswersAs, Feeds, StandsAfter, WorldState, connection_at, is_open, is_open_connection, output_from, Changes, HasAnswersAt, StepOutcome, NoMemory, Hearing, unopened, live, over, cut, cut_short, Attempt, performed, starved, ComesTo, opened, ended, HearsPiece, HearsStep, after_starved, HearsAttempt, IsHeard}
 use Rattle.cap_world.specs.declared.connection.Standing.TheVariants as standings
 use Rattle.cap_world.specs.declared.step.Step.TheVariants as steps
 use Rattle.cap_world.specs.declared.step.Did.TheVariants as dids
@@ -19,6 +19,11 @@ Agrees (live taken) None = ⊥
 Agrees (live taken) (Some is) = (is.standing ≡ standings.Open) × (is.session.fed ≡ taken)
 Agrees (over taken) None = ⊥
 Agrees (over taken) (Some is) = IsOver is.standing × (is.session.fed ≡ taken)
+Agrees (cut taken) None = ⊥
+Agrees (cut taken) (Some is) = (is.standing ≡ standings.Starved) × ((later : List ℕ) × IsBytes later × (is.session.fed ++ later ≡ taken))
+
+not_cut : {A : Type 0} (standing : Standing) → standing ≡ standings.Open → standing ≡ standings.Starved → A
+not_cut standing lives starves = let both : standings.Open ≡ standings.Starved = sym lives ∙ starves in absurd (cc both)
 
 -- what a connection hears next
 abbrev Next : (Hearing → Type 0) → Option Connection → Type 0
@@ -32,30 +37,35 @@ no_open unopened None some a = absurd cc
 no_open unopened (Some is) some a = absurd a
 no_open (live taken) o some a = refl
 no_open (over taken) o some a = refl
+no_open (cut taken) o some a = refl
 
 no_end : (heard : Hearing) (o : Option Connection) → is_open_connection o ≡ false → Agrees heard o → ended heard ≡ heard
 no_end unopened o closed a = refl
 no_end (live taken) None closed a = absurd a
 no_end (live taken) (Some is) closed a = let lives : true ≡ false = rw a.0 at closed in absurd (cc lives)
 no_end (over taken) o closed a = refl
+no_end (cut taken) o closed a = refl
 
 no_piece : (piece : List ℕ) (heard : Hearing) (o : Option Connection) → is_open_connection o ≡ false → Agrees heard o → HearsPiece piece heard heard
 no_piece piece unopened o closed a = refl
 no_piece piece (live taken) None closed a = absurd a
 no_piece piece (live taken) (Some is) closed a = let lives : true ≡ false = rw a.0 at closed in absurd (cc lives)
 no_piece piece (over taken) o closed a = refl
+no_piece piece (cut taken) o closed a = refl
 
 -- a connection opens
 opens : (heard : Hearing) (o : Option Connection) → o ≡ None → Agrees heard o → Next (λ next. next ≡ opened heard) (Some new_connection)
 opens unopened o e a = (live [], refl, (refl, refl))
 opens (live taken) o e a = absurd (rw e at a)
 opens (over taken) o e a = absurd (rw e at a)
+opens (cut taken) o e a = absurd (rw e at a)
 
 -- an open connection ends
 ends : (heard : Hearing) (was : Connection) → was.standing ≡ standings.Open → Agrees heard (Some was) → Next (λ next. next ≡ ended heard) (Some (record was { standing = standings.Ended }))
 ends unopened was lives a = absurd a
 ends (live taken) was lives a = (over taken, refl, (tt, a.1))
 ends (over taken) was lives a = absurd (subst IsOver lives a.0)
+ends (cut taken) was lives a = not_cut was.standing lives a.0
 
 -- all of a piece was taken, or none of it for want of memory
 abbrev Takes : List ℕ → List ℕ → Standing → Type 0
@@ -78,6 +88,7 @@ hears standings.Faulted s before piece more last fine stands session fed (inr st
 hears_piece : (by : ℕ) (piece : List ℕ) (from to : Flat resources) (before after : List (Event resources)) (heard : Hearing) (was is : Connection) → was.standing ≡ standings.Open → Agrees heard (Some was) → is.standing ≢ standings.Starved → Feeds by piece from to before after was is → Next (HearsPiece piece heard) (Some is)
 hears_piece by piece from to before after unopened was is lives a fine f = absurd a
 hears_piece by piece from to before after (over taken) was is lives a fine f = absurd (subst IsOver lives a.0)
+hears_piece by piece from to before after (cut taken) was is lives a fine f = not_cut was.standing lives a.0
 hears_piece by piece from to before after (live taken) was is lives a fine f =
     subst (λ (x : List ℕ). Next (HearsPiece piece (live x)) (Some is)) a.1
     (hears is.standing is.session was.session.fed piece f.more f.last fine f.stands f.session f.serves.continues.fed f.taken)
@@ -112,7 +123,7 @@ same_match false P Q p q = q
 same_heard : (heard : Hearing) (c : ℕ) (old new : WorldState) → new.connections ≡ old.connections → Agrees heard (connection_at c old.connections) → Next (λ next. next ≡ heard) (connection_at c new.connections)
 same_heard heard c old new e a = (heard, refl, subst (λ (x : List (ℕ × Connection)). Agrees heard (connection_at c x)) (sym e) a)
 
-pub hears_done : (c : ℕ) (step : Step) (did : Did) (old new : WorldState) (before after : List (Event resources)) (heard : Hearing) → StepOutcome step (Ok did) old new before after → Agrees heard (connection_at c old.connections) → Next (HearsStep c step heard) (connection_at c new.connections)
+hears_done : (c : ℕ) (step : Step) (did : Did) (old new : WorldState) (before after : List (Event resources)) (heard : Hearing) → StepOutcome step (Ok did) old new before after → Agrees heard (connection_at c old.connections) → Next (HearsStep c step heard) (connection_at c new.connections)
 hears_done c (steps.Open d) dids.Done old new before after heard o a =
     chosen (d == c) (opened heard) heard (own_or_other c d new_connection old.connections new.connections heard (λ next. next ≡ opened heard) o.1 a
     (λ same. opens heard (connection_at c old.connections) (rw same o.0) a))
@@ -123,7 +134,7 @@ hears_done c (steps.End d) dids.Done old new before after heard o a =
 hears_done c (steps.Bytes d piece) dids.Done old new before after heard o a =
     let f = o.2 in
     own_or_other c d f.1 old.connections new.connections heard (HearsPiece piece.now heard) f.4 a
-    (λ same. hears_piece d piece.now old.cluster new.cluster before after heard f.0 f.1 f.3 (subst (λ (x : Option Connection). Agrees heard x) (rw same f.2) a) (λ starved. o.1 (sym f.6 ∙ starved)) f.5)
+    (λ same. hears_piece d piece.now old.cluster new.cluster before after heard f.0 f.1 f.3 (subst (λ (x : Option Connection). Agrees heard x) (rw same f.2) a) (λ starves. o.1 (sym f.6 ∙ starves)) f.5)
 hears_done c (steps.Open d) dids.Idle old new before after heard o a = (
   heard,
   same_choice (d == c) (opened heard) heard (λ t. no_open heard (connection_at c old.connections) (subst (λ (x : ℕ). IsSome (connection_at x old.connections)) (eqb-true d c t) o.0) a),
@@ -146,7 +157,44 @@ hears_done c (steps.Copy w) dids.Idle old new before after heard o a = same_hear
 hears_done c (steps.Propose w start) dids.Idle old new before after heard o a = same_heard heard c old new (ap (λ (x : WorldState). x.connections) o.1) a
 hears_done c (steps.Commit w) dids.Idle old new before after heard o a = same_heard heard c old new (ap (λ (x : WorldState). x.connections) o.1) a
 
+-- ---- a step that was refused memory
+
+-- an open connection ends in a piece: all of it was taken, or none
+cuts : (by : ℕ) (piece : List ℕ) (from to : Flat resources) (before after : List (Event resources)) (heard : Hearing) (was is : Connection) → was.standing ≡ standings.Open → Agrees heard (Some was) → is.standing ≡ standings.Starved → Feeds by piece from to before after was is → Next (λ next. next ≡ cut_short piece heard) (Some is)
+cuts by piece from to before after unopened was is lives a starves f = absurd a
+cuts by piece from to before after (over taken) was is lives a starves f = absurd (subst IsOver lives a.0)
+cuts by piece from to before after (cut taken) was is lives a starves f = not_cut was.standing lives a.0
+cuts by piece from to before after (live taken) was is lives a starves f = (cut (taken ++ piece), refl, (starves, later f.taken))
+  where
+    fed : is.session.fed ≡ taken ++ f.more
+    fed = f.serves.continues.fed ∙ ap (λ (x : List ℕ). x ++ f.more) a.1
+
+    later : Takes piece f.more is.standing → (later : List ℕ) × IsBytes later × (is.session.fed ++ later ≡ taken ++ piece)
+    later (inl whole) = ([], All-nil (λ (b : ℕ). b < 256), append-nil is.session.fed ∙ fed ∙ ap (λ (x : List ℕ). taken ++ x) whole)
+    later (inr stuck) = (piece, f.fits, ap (λ (x : List ℕ). x ++ piece) (fed ∙ ap (λ (x : List ℕ). taken ++ x) stuck.0 ∙ append-nil taken))
+
+hears_starved : (c : ℕ) (step : Step) (e : NoMemory) (old new : WorldState) (before after : List (Event resources)) (heard : Hearing) → StepOutcome step (Err e) old new before after → Agrees heard (connection_at c old.connections) → Next (λ next. next ≡ after_starved c step heard) (connection_at c new.connections)
+hears_starved c (steps.Open d) e old new before after heard o a = same_heard heard c old new (ap (λ (x : WorldState). x.connections) o.1) a
+hears_starved c (steps.End d) e old new before after heard o a = absurd o
+hears_starved c (steps.Copy w) e old new before after heard o a = same_heard heard c old new (ap (λ (x : WorldState). x.connections) o.1) a
+hears_starved c (steps.Propose w start) e old new before after heard o a = absurd o
+hears_starved c (steps.Commit w) e old new before after heard o a = same_heard heard c old new (ap (λ (x : WorldState). x.connections) o.1) a
+hears_starved c (steps.Bytes d piece) e old new before after heard o a =
+    let f = o.0 in
+    chosen (d == c) (cut_short piece.now heard) heard (own_or_other c d f.1 old.connections new.connections heard (λ next. next ≡ cut_short piece.now heard) f.4 a
+    (λ same. cuts d piece.now old.cluster new.cluster before after heard f.0 f.1 f.3 (subst (λ (x : Option Connection). Agrees heard x) (rw same f.2) a) f.6 f.5))
+
+pub hears_attempt : (c : ℕ) (attempt : Attempt) (old new : WorldState) (before after : List (Event resources)) (heard : Hearing) → ComesTo attempt old new before after → Agrees heard (connection_at c old.connections) → Next (HearsAttempt c attempt heard) (connection_at c new.connections)
+hears_attempt c (performed step) old new before after heard o a = hears_done c step o.0 old new before after heard o.1 a
+hears_attempt c (starved step) old new before after heard o a = hears_starved c step o.0 old new before after heard o.1 a
+
 -- ---- what was answered for what was heard
+
+-- a beginning of the payloads is one also with more bytes
+some_more : (taken piece : List ℕ) (calls : List (Call resources)) (output : List ℕ) → IsBytes piece → AnswersSome taken calls output → AnswersSome (taken ++ piece) calls output
+some_more taken piece calls output fits has =
+    let on = stream_goes_on taken piece (has.0 ++ has.1) has.2 has.3 fits in
+    (has.0, has.1 ++ on.0, on.1, subst (λ (x : List (List ℕ)). IsStream (taken ++ piece) x on.1) (append_assoc has.0 has.1 on.0) on.2, has.4)
 
 pub is_heard : (heard : Hearing) (calls : List (Call resources)) (o : Option Connection) → Agrees heard o → HasAnswersAt calls o → IsHeard heard calls (output_from o) (is_open_connection o)
 is_heard unopened calls None a has = (has, refl, refl)
@@ -155,6 +203,10 @@ is_heard (live taken) calls None a has = absurd a
 is_heard (live taken) calls (Some is) a has =
     let all : AnswersAs standings.Open taken calls is.session.unsent = subst (λ (x : List ℕ). AnswersAs standings.Open x calls is.session.unsent) a.1 (subst (λ (s : Standing). AnswersAs s is.session.fed calls is.session.unsent) a.0 has.answers) in
     (rest all.0, all.1, ap is_open_standing a.0)
+is_heard (cut taken) calls None a has = absurd a
+is_heard (cut taken) calls (Some is) a has =
+    let some : AnswersSome is.session.fed calls is.session.unsent = subst (λ (s : Standing). AnswersAs s is.session.fed calls is.session.unsent) a.0 has.answers in
+    (subst (λ (x : List ℕ). AnswersSome x calls is.session.unsent) a.1.2 (some_more is.session.fed a.1.0 calls is.session.unsent a.1.1 some), ap is_open_standing a.0)
 is_heard (over taken) calls None a has = absurd a
 is_heard (over taken) calls (Some is) a has =
     subst (λ (x : List ℕ). IsHeard (over x) calls is.session.unsent (is_open_standing is.standing)) a.1 (over_heard is.standing is.session.fed calls is.session.unsent a.0 has.answers)
@@ -164,63 +216,3 @@ is_heard (over taken) calls (Some is) a has =
     over_heard standings.Ended taken calls output is has = (rest has.0, has.1, refl)
     over_heard standings.Faulted taken calls output is has = (fault has.0, has.1, refl)
     over_heard standings.Starved taken calls output is has = absurd is
-
--- a beginning of the payloads is one also with more bytes
-some_more : (taken piece : List ℕ) (calls : List (Call resources)) (output : List ℕ) → IsBytes piece → AnswersSome taken calls output → AnswersSome (taken ++ piece) calls output
-some_more taken piece calls output fits has =
-    let on = stream_goes_on taken piece (has.0 ++ has.1) has.2 has.3 fits in
-    (has.0, has.1 ++ on.0, on.1, subst (λ (x : List (List ℕ)). IsStream (taken ++ piece) x on.1) (append_assoc has.0 has.1 on.0) on.2, has.4)
-
-cut_short : (by : ℕ) (piece : List ℕ) (from to : Flat resources) (before after : List (Event resources)) (heard : Hearing) (calls : List (Call resources)) (was is : Connection) → was.standing ≡ standings.Open → Agrees heard (Some was) → is.standing ≡ standings.Starved → Feeds by piece from to before after was is → HasAnswers calls is
-    → IsCutShort piece heard calls is.session.unsent (is_open_standing is.standing)
-cut_short by piece from to before after unopened calls was is lives a starved f has = absurd a
-cut_short by piece from to before after (over taken) calls was is lives a starved f has = absurd (subst IsOver lives a.0)
-cut_short by piece from to before after (live taken) calls was is lives a starved f has =
-    let some : AnswersSome is.session.fed calls is.session.unsent = subst (λ (s : Standing). AnswersAs s is.session.fed calls is.session.unsent) starved has.answers in
-    let fed : is.session.fed ≡ was.session.fed ++ f.more = f.serves.continues.fed in
-    let all : AnswersSome (was.session.fed ++ piece) calls is.session.unsent =
-    elim f.taken [
-      | inl whole ↦ subst (λ (x : List ℕ). AnswersSome x calls is.session.unsent) (fed ∙ ap (λ (x : List ℕ). was.session.fed ++ x) whole) some
-      | inr stuck ↦
-          some_more was.session.fed piece calls is.session.unsent f.fits (subst (λ (x : List ℕ). AnswersSome x calls is.session.unsent) (fed ∙ ap (λ (x : List ℕ). was.session.fed ++ x) stuck.0 ∙ append-nil was.session.fed) some)
-    ] in
-    (subst (λ (x : List ℕ). AnswersSome (x ++ piece) calls is.session.unsent) a.1 all, ap is_open_standing starved)
-
--- nothing changed
-still_heard : (c : ℕ) (old new : WorldState) (heard : Hearing) (calls : List (Call resources)) → new ≡ old → Agrees heard (connection_at c old.connections) → HasAnswersAt calls (connection_at c new.connections) → IsHeard heard calls (output_of c new) (is_open c new)
-still_heard c old new heard calls e a has =
-    is_heard heard calls (connection_at c new.connections) (subst (λ (x : WorldState). Agrees heard (connection_at c x.connections)) (sym e) a) has
-
-pub heard_starved : (c : ℕ) (step : Step) (old new : WorldState) (before after : List (Event resources)) (heard : Hearing) (calls : List (Call resources)) → Starves step old new before after → Agrees heard (connection_at c old.connections) → HasAnswersAt calls (connection_at c new.connections)
-    → IsHeardBefore (Some step) c heard calls (output_of c new) (is_open c new)
-heard_starved c (steps.Open d) old new before after heard calls s a has = still_heard c old new heard calls s.1 a has
-heard_starved c (steps.End d) old new before after heard calls s a has = absurd s
-heard_starved c (steps.Copy w) old new before after heard calls s a has = still_heard c old new heard calls s.1 a has
-heard_starved c (steps.Propose w start) old new before after heard calls s a has = absurd s
-heard_starved c (steps.Commit w) old new before after heard calls s a has = still_heard c old new heard calls s.1 a has
-heard_starved c (steps.Bytes d piece) old new before after heard calls s a has =
-    elim (cases_Bool (d == c)) [
-      | inl t ↦
-          let same : c ≡ d = sym (eqb-true d c t) in
-          let at : connection_at c new.connections ≡ Some s.0.1 = rw (s.0.4 c, t) refl in
-          rw (t, at)
-          (cut_short d piece.now old.cluster new.cluster before after heard calls s.0.0 s.0.1 s.0.3 (subst (λ (x : Option Connection). Agrees heard x) (rw same s.0.2) a) s.0.6 s.0.5 (subst (λ (x : Option Connection). HasAnswersAt calls x) at has))
-      | inr f ↦
-          let at : connection_at c new.connections ≡ connection_at c old.connections = rw (s.0.4 c, f) refl in
-          rw (f, at) (is_heard heard calls (connection_at c old.connections) a (subst (λ (x : Option Connection). HasAnswersAt calls x) at has))
-    ]
-
--- ---- many steps
-
-hears_more : (c : ℕ) (made : List Step) (step : Step) (first second third : Hearing) → Hears c made first second → HearsStep c step second third → Hears c (made ++ step ∷ []) first third
-hears_more c [] step first second third e h = (third, subst (λ (x : Hearing). HearsStep c step x third) (sym e) h, refl)
-hears_more c (s ∷ made) step first second third e h = (e.0, e.1, hears_more c made step e.0 second third e.2 h)
-
-abbrev pub HeardSoFar : List Step → WorldState → Type 0
-HeardSoFar made sight = (c : ℕ) → (heard : Hearing) × Hears c made unopened heard × Agrees heard (connection_at c sight.connections)
-
-pub heard_next : (all : List Step) (i : ℕ) (d : Step) (did : Did) (old new : WorldState) (before after : List (Event resources)) → i < length all → HeardSoFar (take i all) old → StepOutcome (get_or all i d) (Ok did) old new before after → HeardSoFar (take (i + 1) all) new
-heard_next all i d did old new before after below so_far o c =
-    let was = so_far c in
-    let next = hears_done c (get_or all i d) did old new before after was.0 o was.2 in
-    (next.0, rw (take_more all i d below) (hears_more c (take i all) (get_or all i d) unopened was.0 next.0 was.1 next.1), next.2)

@@ -7,3 +7,4 @@ pub mod Lawful
 pub mod Keeping
 pub mod Heard
 pub mod Running
+pub mod Promises

@@ -1,5 +1,5 @@
 -- What the steps of workers come to.
-use Rattle.cap_world.proofs.Prelude.{◌≡◌, ℕ, ◌<◌, ◌≤◌, false, List, [], ◌∷◌, ◌++◌, Option, Some, None, Result, Ok, Err, refl, sym, ap, subst, ◌∙◌, append-nil, inl, inr, arith, ◌==◌, AllByRecursion, cases_Bool, eqb-true, eq-eqb, resources, Event, NoMemory, Verdict, Flat, Sight, NodeSight, sight_of, NodeProposal, IsAdmissible, reason_of, IsFirstChoice, ring_from, choice_from, IsOf, IsVerdict, choice_from_is_computed, rejected_exactly, Seen, sight_in, Step, Did, WorkerState, workers_max, with_copy, with_verdict, WorldState, worker_at, choice_in, verdict_in, choice_of, verdict_of, Changes, Copied, made_by, StepOutcome, Makes, QuietStepsMakeNoEvent, IsExact, CommitsAreExact, IsNoCopy, ProposalsAreOfCopies, IsMadeOf, CopiedChoicesAreMade, same_choice}
+use Rattle.cap_world.proofs.Prelude.{◌≡◌, ℕ, ◌<◌, ◌≤◌, false, List, [], ◌∷◌, ◌++◌, Option, Some, None, IsSome, Result, Ok, Err, refl, sym, ap, subst, ◌∙◌, append-nil, inl, inr, arith, ◌==◌, AllByRecursion, cases_Bool, eqb-true, eq-eqb, resources, Event, NoMemory, Verdict, Flat, Sight, NodeSight, sight_of, NodeProposal, IsAdmissible, reason_of, IsFirstChoice, ring_from, choice_from, IsOf, IsVerdict, choice_from_is_computed, rejected_exactly, Seen, sight_in, Step, Did, WorkerState, workers_max, with_copy, with_verdict, WorldState, worker_at, choice_in, verdict_in, choice_of, verdict_of, Changes, Copied, made_by, StepOutcome, Attempt, performed, starved, ComesTo, Makes, QuietStepsMakeNoEvent, IsExact, CommitsAreExact, IsNoCopy, ProposalsAreOfCopies, IsMadeOf, IsLeftOf, turn_of, CopiedChoicesAreMade, same_choice}
 use Rattle.cap_model.specs.declared.proposal.Verdict.TheVariants as verdicts
 use Rattle.cap_model.specs.Events.{Step as ClusterStep}
 use Rattle.cap_world.specs.declared.step.Step.TheVariants as steps
@@ -97,18 +97,30 @@ seen_kept w v seen old new was is h at change keeps =
       | inr f ↦ record { worker = h.worker; at = other_than w v is old.workers new.workers change f ∙ h.at; is = h.is }
     ]
 
-seen_after : (w : ℕ) (seen : Seen) (step : Step) (did : Did) (old new : WorldState) (before after : List (Event resources)) → IsNoCopy w step → StepOutcome step (Ok did) old new before after → HasSeen w seen old → HasSeen w seen new
-seen_after w seen step dids.Idle old new before after other o h = still_seen w seen old new h (ap (λ (x : WorldState). x.workers) o.1)
-seen_after w seen (steps.Open c) dids.Done old new before after other o h = still_seen w seen old new h o.3
-seen_after w seen (steps.End c) dids.Done old new before after other o h = still_seen w seen old new h o.2
-seen_after w seen (steps.Bytes c piece) dids.Done old new before after other o h = still_seen w seen old new h o.3
-seen_after w seen (steps.Copy v) dids.Done old new before after other o h =
+seen_performed : (w : ℕ) (seen : Seen) (step : Step) (did : Did) (old new : WorldState) (before after : List (Event resources)) → IsNoCopy w (performed step) → StepOutcome step (Ok did) old new before after → HasSeen w seen old → HasSeen w seen new
+seen_performed w seen step dids.Idle old new before after other o h = still_seen w seen old new h (ap (λ (x : WorldState). x.workers) o.1)
+seen_performed w seen (steps.Open c) dids.Done old new before after other o h = still_seen w seen old new h o.3
+seen_performed w seen (steps.End c) dids.Done old new before after other o h = still_seen w seen old new h o.2
+seen_performed w seen (steps.Bytes c piece) dids.Done old new before after other o h = still_seen w seen old new h o.3
+seen_performed w seen (steps.Copy v) dids.Done old new before after other o h =
     elim (cases_Bool (v == w)) [
       | inl t ↦ absurd (other (eqb-true v w t))
       | inr f ↦ record { worker = h.worker; at = other_than w v (with_copy o.0.seen (worker_at v old.workers)) old.workers new.workers o.0.change f ∙ h.at; is = h.is }
     ]
-seen_after w seen (steps.Propose v start) dids.Done old new before after other o h = seen_kept w v seen old new o.0.was _ h o.0.at o.0.change refl
-seen_after w seen (steps.Commit v) dids.Done old new before after other o h = seen_kept w v seen old new o.was _ h o.at o.change refl
+seen_performed w seen (steps.Propose v start) dids.Done old new before after other o h = seen_kept w v seen old new o.0.was _ h o.0.at o.0.change refl
+seen_performed w seen (steps.Commit v) dids.Done old new before after other o h = seen_kept w v seen old new o.was _ h o.at o.change refl
+
+seen_starved : (w : ℕ) (seen : Seen) (step : Step) (e : NoMemory) (old new : WorldState) (before after : List (Event resources)) → StepOutcome step (Err e) old new before after → HasSeen w seen old → HasSeen w seen new
+seen_starved w seen (steps.Open c) e old new before after o h = still_seen w seen old new h (ap (λ (x : WorldState). x.workers) o.1)
+seen_starved w seen (steps.End c) e old new before after o h = absurd o
+seen_starved w seen (steps.Bytes c piece) e old new before after o h = still_seen w seen old new h o.1
+seen_starved w seen (steps.Copy v) e old new before after o h = still_seen w seen old new h (ap (λ (x : WorldState). x.workers) o.1)
+seen_starved w seen (steps.Propose v start) e old new before after o h = absurd o
+seen_starved w seen (steps.Commit v) e old new before after o h = still_seen w seen old new h (ap (λ (x : WorldState). x.workers) o.1)
+
+seen_after : (w : ℕ) (seen : Seen) (attempt : Attempt) (old new : WorldState) (before after : List (Event resources)) → IsNoCopy w attempt → ComesTo attempt old new before after → HasSeen w seen old → HasSeen w seen new
+seen_after w seen (performed step) old new before after other o h = seen_performed w seen step o.0 old new before after other o.1 h
+seen_after w seen (starved step) old new before after other o h = seen_starved w seen step o.0 old new before after o.1 h
 
 -- a Copy of a worker, and a Propose of one that has a snapshot, are done
 copied_seen : (w : ℕ) (was : Option WorkerState) (seen : Seen) → (with_copy seen was).seen ≡ seen
@@ -139,18 +151,18 @@ propose_done w start seen dids.Done old new before after below h o =
     }
 propose_done w start seen dids.Idle old new before after below h o = elim o.0 [ inl past ↦ too_far w below past | inr none ↦ (let at = h.at in absurd (cc (none, at))) ]
 
-proposed_after : (w start : ℕ) (seen : Seen) (others : List Step) (old new : WorldState) (before after : List (Event resources)) → w < workers_max → AllByRecursion (IsNoCopy w) others → HasSeen w seen old → Makes (others ++ steps.Propose w start ∷ []) old new before after
+proposed_after : (w start : ℕ) (seen : Seen) (others : List Attempt) (old new : WorldState) (before after : List (Event resources)) → w < workers_max → AllByRecursion (IsNoCopy w) others → HasSeen w seen old → Makes (others ++ performed (steps.Propose w start) ∷ []) old new before after
     → choice_of w new ≡ choice_from (sight_in resources seen) start
 proposed_after w start seen [] old new before after below all h made =
-    let p = propose_done w start seen made.2 old made.0 before made.1 below h made.3 in
-    ap (choice_of w) made.4.0 ∙ p.choice
-proposed_after w start seen (step ∷ others) old new before after below all h made =
-    proposed_after w start seen others made.0 new made.1 after below all.1 (seen_after w seen step made.2 old made.0 before made.1 all.0 made.3 h) made.4
+    let p = propose_done w start seen made.2.0 old made.0 before made.1 below h made.2.1 in
+    ap (choice_of w) made.3.0 ∙ p.choice
+proposed_after w start seen (attempt ∷ others) old new before after below all h made =
+    proposed_after w start seen others made.0 new made.1 after below all.1 (seen_after w seen attempt old made.0 before made.1 all.0 made.2 h) made.3
 
 pub proposals_of_copies : ProposalsAreOfCopies
 proposals_of_copies w start others old new before after below all made =
-    let c = copy_done w made.2 old made.0 before made.1 below made.3 in
-    proposed_after w start c.0.seen others made.0 new made.1 after below all (copy_seen w old made.0 c.0) made.4
+    let c = copy_done w made.2.0 old made.0 before made.1 below made.2.1 in
+    proposed_after w start c.0.seen others made.0 new made.1 after below all (copy_seen w old made.0 c.0) made.3
     ∙ same_choice (sight_in resources c.0.seen) (sight_of old.cluster) c.0.sight start
 
 -- ---- copy, propose and commit
@@ -179,19 +191,53 @@ commit_done w (Some p) dids.Done old new before after below stands adm o =
     made_so p o.verdict old new before after (adm p refl) (subst (λ (x : NodeProposal). IsVerdict x old.cluster new.cluster o.verdict) (sym same) o.is) o.events
 
 -- the same of a state whose cluster and events are the same
-moved_back : (choice : Option NodeProposal) (old mid new last : WorldState) (before between after events : List (Event resources)) → mid.cluster ≡ old.cluster → last ≡ new → between ≡ before → events ≡ after → IsMadeOf choice mid new between after → IsMadeOf choice old last before events
-moved_back None old mid new last before between after events c l b e m = (ap (λ (x : WorldState). x.cluster) l ∙ m.0 ∙ c, e ∙ m.1 ∙ b)
-moved_back (Some p) old mid new last before between after events c l b e m =
-    (m.0, m.1, subst (λ (x : Flat resources). ClusterStep x m.0 last.cluster) c (subst (λ (x : WorldState). ClusterStep mid.cluster m.0 x.cluster) (sym l) m.2), e ∙ m.3 ∙ ap (λ (es : List (Event resources)). es ++ m.0 ∷ []) b)
+moved_back : (choice : Option NodeProposal) (old mid new : WorldState) (before between after : List (Event resources)) → mid.cluster ≡ old.cluster → between ≡ before → IsMadeOf choice mid new between after → IsMadeOf choice old new before after
+moved_back None old mid new before between after c b m = (m.0 ∙ c, m.1 ∙ b)
+moved_back (Some p) old mid new before between after c b m =
+    (m.0, m.1, subst (λ (x : Flat resources). ClusterStep x m.0 new.cluster) c m.2, m.3 ∙ ap (λ (es : List (Event resources)). es ++ m.0 ∷ []) b)
+
+-- a worker that has copied and proposed now comes to its commit
+record HasProposed (w start : ℕ) (commit : Attempt) (old new : WorldState) (before after : List (Event resources)) : Type 0 where
+  mid : WorldState
+  between : List (Event resources)
+  choice : choice_of w mid ≡ choice_from (sight_of old.cluster) start
+  cluster : mid.cluster ≡ old.cluster
+  events : between ≡ before
+  comes : ComesTo commit mid new between after
+
+has_proposed : (w start : ℕ) (commit : Attempt) (old new : WorldState) (before after : List (Event resources)) → w < workers_max → Makes (turn_of w start commit) old new before after → HasProposed w start commit old new before after
+has_proposed w start commit old new before after below made =
+    let c = copy_done w made.2.0 old made.0 before made.1 below made.2.1 in
+    let second = made.3 in
+    let p = propose_done w start c.0.seen second.2.0 made.0 second.0 made.1 second.1 below (copy_seen w old made.0 c.0) second.2.1 in
+    let third = second.3 in
+    record {
+      mid = second.0;
+      between = second.1;
+      choice = p.choice ∙ same_choice (sight_in resources c.0.seen) (sight_of old.cluster) c.0.sight start;
+      cluster = p.cluster ∙ c.0.cluster;
+      events = p.events ∙ c.1;
+      comes = subst (λ (x : WorldState). ComesTo commit second.0 x second.1 after) (sym third.3.0) (subst (λ (es : List (Event resources)). ComesTo commit second.0 third.0 second.1 es) (sym third.3.1) third.2);
+    }
+
+made_choice : (w start : ℕ) (old new : WorldState) (before after : List (Event resources)) → w < workers_max → HasProposed w start (performed (steps.Commit w)) old new before after → IsMadeOf (choice_from (sight_of old.cluster) start) old new before after
+made_choice w start old new before after below has =
+    let adm : (q : NodeProposal) → choice_from (sight_of old.cluster) start ≡ Some q → IsAdmissible (sight_of has.mid.cluster) q = λ q e. subst (λ (x : Flat resources). IsAdmissible (sight_of x) q) (sym has.cluster) (chosen_admissible (sight_of old.cluster) start q e) in
+    moved_back (choice_from (sight_of old.cluster) start) old has.mid new before has.between after has.cluster has.events
+    (commit_done w (choice_from (sight_of old.cluster) start) has.comes.0 has.mid new has.between after below has.choice adm has.comes.1)
+
+left_choice : (w start : ℕ) (old new : WorldState) (before after : List (Event resources)) → HasProposed w start (starved (steps.Commit w)) old new before after → IsLeftOf w (choice_from (sight_of old.cluster) start) old new before after
+left_choice w start old new before after has =
+    let o = has.comes.1 in
+    let stands : choice_of w new ≡ choice_from (sight_of old.cluster) start = ap (choice_of w) o.1 ∙ has.choice in (
+      subst (λ (x : Option NodeProposal). IsSome x) (sym o.0.choice ∙ has.choice) refl,
+      stands,
+      ap (λ (x : WorldState). x.cluster) o.1 ∙ has.cluster,
+      o.2 ∙ has.events,
+    )
 
 pub copied_choices : CopiedChoicesAreMade
-copied_choices w start old new before after below made =
-    let c = copy_done w made.2 old made.0 before made.1 below made.3 in
-    let second = made.4 in
-    let p = propose_done w start c.0.seen second.2 made.0 second.0 made.1 second.1 below (copy_seen w old made.0 c.0) second.3 in
-    let third = second.4 in
-    let cluster : second.0.cluster ≡ old.cluster = p.cluster ∙ c.0.cluster in
-    let chosen = p.choice ∙ same_choice (sight_in resources c.0.seen) (sight_of old.cluster) c.0.sight start in
-    let adm : (q : NodeProposal) → choice_from (sight_of old.cluster) start ≡ Some q → IsAdmissible (sight_of second.0.cluster) q = λ q e. subst (λ (x : Flat resources). IsAdmissible (sight_of x) q) (sym cluster) (chosen_admissible (sight_of old.cluster) start q e) in
-    moved_back (choice_from (sight_of old.cluster) start) old second.0 third.0 new before second.1 third.1 after cluster third.4.0 (p.events ∙ c.1) third.4.1
-    (commit_done w (choice_from (sight_of old.cluster) start) third.2 second.0 third.0 second.1 third.1 below chosen adm third.3)
+copied_choices w start old new before after below = (
+  λ made. made_choice w start old new before after below (has_proposed w start (performed (steps.Commit w)) old new before after below made),
+  λ made. left_choice w start old new before after (has_proposed w start (starved (steps.Commit w)) old new before after below made),
+)

@@ -7,5 +7,6 @@ pub mod Working
 pub mod Steps
 pub mod Hearing
 pub mod Making
+pub mod Once
 pub mod Laws
 pub mod WorkerLaws

@@ -1,5 +1,5 @@
 -- Laws of the steps of workers.
-use Rattle.std.specs.Prelude.{◌≡◌, ◌≢◌, ◌⊎◌, ℕ, ◌<◌, List, [], ◌∷◌, ◌++◌, Option, Some, None, Result, Ok, IsErr}
+use Rattle.std.specs.Prelude.{◌≡◌, ◌≢◌, ◌⊎◌, ℕ, ◌<◌, List, [], ◌∷◌, ◌++◌, Option, Some, None, Result, Ok, IsErr, IsSome}
 use Rattle.std.specs.List.{AllByRecursion}
 use Rattle.cap_base.specs.Limits.{resources}
 use Rattle.cap_model.specs.declared.event.Event.{Event}
@@ -18,6 +18,7 @@ use Rattle.cap_world.specs.declared.step.Did.TheVariants as dids
 use Rattle.cap_world.specs.Worker.{workers_max}
 use Rattle.cap_world.specs.World.{WorldState, choice_of, verdict_of}
 use Rattle.cap_world.specs.Steps.{StepOutcome}
+use Rattle.cap_world.specs.Hearing.{Attempt, performed, starved}
 use Rattle.cap_world.specs.Making.{Makes}
 
 -- the steps that make no event, whatever comes of them
@@ -48,28 +49,40 @@ CommitsAreExact =
     (w : ℕ) (p : NodeProposal) (result : Result Did NoMemory) (old new : WorldState) (before after : List (Event resources)) → w < workers_max → choice_of w old ≡ Some p →
     StepOutcome (steps.Commit w) result old new before after → IsExact w p result old new before after
 
--- a step that is no Copy of that worker
-abbrev pub IsNoCopy : ℕ → Step → Type 0
-IsNoCopy w (steps.Open c) = Unit {0}
-IsNoCopy w (steps.Bytes c piece) = Unit {0}
-IsNoCopy w (steps.End c) = Unit {0}
-IsNoCopy w (steps.Copy v) = v ≢ w
-IsNoCopy w (steps.Propose v start) = Unit {0}
-IsNoCopy w (steps.Commit v) = Unit {0}
+-- a step that is no Copy of that worker, or one that was refused memory
+abbrev pub IsNoCopy : ℕ → Attempt → Type 0
+IsNoCopy w (starved step) = Unit {0}
+IsNoCopy w (performed (steps.Open c)) = Unit {0}
+IsNoCopy w (performed (steps.Bytes c piece)) = Unit {0}
+IsNoCopy w (performed (steps.End c)) = Unit {0}
+IsNoCopy w (performed (steps.Copy v)) = v ≢ w
+IsNoCopy w (performed (steps.Propose v start)) = Unit {0}
+IsNoCopy w (performed (steps.Commit v)) = Unit {0}
 
--- What a worker proposes is the choice of the cluster as it was at the worker's last Copy, whatever steps came between.
+-- What a worker proposes is the choice of the cluster as it was at the worker's last Copy that was not refused memory, whatever steps came
+-- between.
 abbrev pub ProposalsAreOfCopies : Type 0
 ProposalsAreOfCopies =
-    (w start : ℕ) (others : List Step) (old new : WorldState) (before after : List (Event resources)) → w < workers_max → AllByRecursion (IsNoCopy w) others →
-    Makes (steps.Copy w ∷ (others ++ steps.Propose w start ∷ [])) old new before after → choice_of w new ≡ choice_from (sight_of old.cluster) start
+    (w start : ℕ) (others : List Attempt) (old new : WorldState) (before after : List (Event resources)) → w < workers_max → AllByRecursion (IsNoCopy w) others →
+    Makes (performed (steps.Copy w) ∷ (others ++ performed (steps.Propose w start) ∷ [])) old new before after → choice_of w new ≡ choice_from (sight_of old.cluster) start
 
 -- a choice was made of this state of the cluster: its event is a step of the cluster; none, and nothing happens
 abbrev pub IsMadeOf : Option NodeProposal → WorldState → WorldState → List (Event resources) → List (Event resources) → Type 0
 IsMadeOf None old new before after = (new.cluster ≡ old.cluster) × (after ≡ before)
 IsMadeOf (Some p) old new before after = (event : Event resources) × IsOf p event × ClusterStep old.cluster event new.cluster × (after ≡ before ++ event ∷ [])
 
--- A worker that copies, proposes and commits with no other step between makes the choice of the state before.
+-- a worker has a choice that was not made, and the cluster is as it was
+abbrev pub IsLeftOf : ℕ → Option NodeProposal → WorldState → WorldState → List (Event resources) → List (Event resources) → Type 0
+IsLeftOf w choice old new before after = IsSome choice × (choice_of w new ≡ choice) × (new.cluster ≡ old.cluster) × (after ≡ before)
+
+-- copies, proposes and commits, with no other step between
+abbrev pub turn_of : ℕ → ℕ → Attempt → List Attempt
+turn_of w start commit = performed (steps.Copy w) ∷ performed (steps.Propose w start) ∷ commit ∷ []
+
+-- A worker that copies, proposes and commits with no other step between makes the choice of the state before; where the commit is refused
+-- memory, there is one, and it still stands.
 abbrev pub CopiedChoicesAreMade : Type 0
 CopiedChoicesAreMade =
-    (w start : ℕ) (old new : WorldState) (before after : List (Event resources)) → w < workers_max → Makes (steps.Copy w ∷ steps.Propose w start ∷ steps.Commit w ∷ []) old new before after →
-    IsMadeOf (choice_from (sight_of old.cluster) start) old new before after
+    (w start : ℕ) (old new : WorldState) (before after : List (Event resources)) → w < workers_max →
+    (Makes (turn_of w start (performed (steps.Commit w))) old new before after → IsMadeOf (choice_from (sight_of old.cluster) start) old new before after)
+    × (Makes (turn_of w start (starved (steps.Commit w))) old new before after → IsLeftOf w (choice_from (sight_of old.cluster) start) old new before after)

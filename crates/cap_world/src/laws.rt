@@ -1,10 +1,10 @@
 //! Laws of worlds, for callers to cite. The functions do nothing.
-ghost use Rattle.cap_world.specs.Laws.{WorldsStayBounded, OpeningsAreBounded, ContainersAreUsedOnce, ContainersAreKept, GrantsAreReportedOnce, EndsAreReportedOnce};
+ghost use Rattle.cap_world.specs.Laws.{WorldsStayBounded, OpeningsAreBounded, ContainersAreUsedOnce, NewsIsReportedOnce};
 ghost use Rattle.cap_world.specs.Making.{MadeStepsHaveTheHeadline};
 ghost use Rattle.cap_world.specs.WorkerLaws.{CommitsAreExact, CopiedChoicesAreMade, ProposalsAreOfCopies, QuietStepsMakeNoEvent};
 
 /// Steps that `World::step` made one after the other, from an opening on, have the headline, as those of `World::run` have it: of
-/// each nothing is asked but its `outcome`.
+/// each nothing is asked but its `outcome`, and of some it may be `NoMemory`.
 pub fn made_steps_have_the_headline()
     ensures { MadeStepsHaveTheHeadline }
 {}
@@ -21,15 +21,13 @@ pub fn worlds_stay_bounded()
 /// Whatever the steps, no container is granted or ended twice, and those that are live at the close are those of the opening and
 /// those granted, without those that have ended.
 pub fn containers_are_used_once()
-    ensures once { ContainersAreUsedOnce }
-    ensures live { ContainersAreKept }
+    ensures { ContainersAreUsedOnce }
 {}
 
 /// Whatever the steps, each application is reported its grants and the ends of its containers in the order in which they came,
 /// each once.
 pub fn news_is_reported_once()
-    ensures grants { GrantsAreReportedOnce }
-    ensures ends { EndsAreReportedOnce }
+    ensures { NewsIsReportedOnce }
 {}
 
 /// `Open`, `End`, `Copy` and `Propose`, and a step that does not apply, make no event. The `Commit` of a proposal makes its own
@@ -40,9 +38,9 @@ pub fn commits_are_exact()
     ensures commits { CommitsAreExact }
 {}
 
-/// What a worker proposes is the choice of the cluster as it was at the worker's last `Copy`, whatever steps came between. Where
-/// it copies, proposes and commits with no other step between and no failed allocation, the choice of the state before is made, and
-/// nothing where there is none.
+/// What a worker proposes is the choice of the cluster as it was at the worker's last `Copy` that was done, whatever steps came
+/// between. Where it copies, proposes and commits with no other step between, the choice of the state before is made, and nothing
+/// where there is none; where memory is refused to the commit, the choice still stands.
 pub fn proposals_are_of_copies()
     ensures proposed { ProposalsAreOfCopies }
     ensures made { CopiedChoicesAreMade }

@@ -1,14 +1,18 @@
 //! Connections and workers over one cluster, and one step on them (`World`).
-ghost use Rattle.std.specs.Prelude.{◌≡◌, option_map};
+ghost use Rattle.std.specs.Prelude.{◌≡◌, IfOk, option_map};
+ghost use Rattle.cap_model.specs.Bounds.{IsBounded};
+ghost use Rattle.cap_model.specs.Flat.{opened_cluster};
 ghost use Rattle.cap_world.specs.World.{Adds, IsWorld, start, is_open, output_of, choice_of, verdict_of};
 ghost use Rattle.cap_world.specs.Steps.{StepOutcome};
+ghost use Rattle.cap_world.specs.Once.{StaysBounded, HappensOnce};
+ghost use Rattle.cap_world.specs.Laws.{KeepsPromises};
 
 use crate::connections::{self, Connections};
 use crate::step::{Did, Step};
 use crate::workers::{self, Workers};
 use cap_base::RESOURCES;
 use cap_commit::Cluster;
-use cap_model::{Event, NoMemory, Proposal, Verdict};
+use cap_model::{Config, Event, NoMemory, Proposal, Verdict};
 use http_server::Log;
 use std::alloc::Global;
 use std::marker::Model;
@@ -69,6 +73,20 @@ impl World {
         }
     }
 
+    /// The world over the cluster that settings open. Whatever steps it makes, of which memory may be refused to some, have the
+    /// headline, every state is bounded, and each container is granted, ended and reported once.
+    pub fn from_config(alloc: Global, config: &Config<RESOURCES>) -> Result<World, NoMemory>
+        ensures opened { IfOk result (λ world. world ≡ start (opened_cluster config.now)) }
+        ensures promised { KeepsPromises (opened_cluster config.now) }
+    {
+        // The queues of settings are listed: for that the cluster is bounded.
+        let _listed = config.queues();
+        match Cluster::from_config(alloc, config) {
+            Ok(cluster) => Ok(World::open(alloc, cluster)),
+            Err(NoMemory) => Err(NoMemory),
+        }
+    }
+
     /// The cluster.
     pub fn cluster(&self) -> &Cluster<RESOURCES>
         ensures { result.now.flat ≡ self.now.sight.cluster }
@@ -123,6 +141,10 @@ impl World {
             events.old.items events.new.items }
         ensures adds { Adds self.old self.new events.old.items events.new.items }
         ensures headline { IsWorld self.new }
+        ensures bounded { IsBounded self.new.opening
+            → StaysBounded self.new.opening self.new.events self.new.sight.cluster }
+        ensures once { IsBounded self.new.opening
+            → HappensOnce self.new.opening self.new.events self.new.sight.cluster }
     {
         let held = events.as_slice().len();
         let result = act(

@@ -1,5 +1,6 @@
-use Rattle.cap_world.proofs.Prelude.{ap, refl, length, List, resources, Event, Known, WorldState, opening_of}
+use Rattle.cap_world.proofs.Prelude.{ap, refl, length, List, resources, Event, Known, WorldState, opening_of, events_of}
 use Rattle.cap_world.proofs.Keeping.{lawful_kept, adds_kept}
+use Rattle.cap_world.proofs.Promises.{stays_bounded, happens_once}
 use Rattle.cap_world.proofs.world.World.step.Goals as goal
 
 pub invariant_of-self : goal.invariant_of-self
@@ -10,6 +11,12 @@ invariant_of-self c =
 
 pub returns-clause-headline : goal.returns-clause-headline
 returns-clause-headline c = invariant_of-self c
+
+pub returns-clause-bounded : goal.returns-clause-bounded
+returns-clause-bounded c = stays_bounded (opening_of c.self.inside.opening.items) (events_of c.and-self-inside.result.items) c.act-result.new.cluster.flat (invariant_of-self c).run
+
+pub returns-clause-once : goal.returns-clause-once
+returns-clause-once c = happens_once (opening_of c.self.inside.opening.items) (events_of c.and-self-inside.result.items) c.act-result.new.cluster.flat (invariant_of-self c).run
 
 pub returns-clause-adds : goal.returns-clause-adds
 returns-clause-adds c =
