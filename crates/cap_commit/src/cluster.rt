@@ -21,7 +21,7 @@ ghost use Rattle.cap_model.specs.Heartbeat.{after_beat};
 ghost use Rattle.cap_tree.specs.Rows.{IsAt, queues_of};
 ghost use Rattle.cap_tree.specs.Spot.{IsPosition, path_at};
 ghost use Rattle.cap_asks.specs.Apps.{KeepsNumbers, ask_room, HasRooms, UsesRoom, position_of};
-ghost use Rattle.cap_commit.specs.ClusterState.{IsRowOf};
+ghost use Rattle.cap_commit.specs.ClusterState.{IsRowOf, IsWaitedAt};
 ghost use Rattle.cap_laws.specs.Reservations.{kept_by_ask};
 ghost use Rattle.cap_commit.specs.Owners.{TakesEndRoom, TakesLeaver, owns, containers_owned, containers_named};
 
@@ -104,11 +104,13 @@ impl<const K: usize> Cluster<K> {
         })
     }
 
-    /// Its queues. Each shows what the cluster uses in it and under it, and a leaf what its users use.
+    /// Its queues. Each shows what the cluster uses in it and under it and how many applications wait there, and a leaf which of its own wait and
+    /// what its users use.
     pub fn tree(&self) -> &QueueTree<K, Global>
         ensures rows { result.now ≡ self.now.rows }
         ensures queues { queues_of self.now.rows ≡ self.now.flat.settings.queues }
         ensures tied { All (IsRowOf self.now.flat) self.now.rows }
+        ensures waiting { All (IsWaitedAt self.now.flat.apps.active) self.now.rows }
         ensures resources { K ≤ resources_max }
     {
         &*self.tree

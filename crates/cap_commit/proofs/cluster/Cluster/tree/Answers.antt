@@ -5,3 +5,6 @@ returns-clause-resources g c = c.self.invariant.consistent.resources
 
 pub returns-clause-tied : goal.returns-clause-tied
 returns-clause-tied g c = rw (← c.self.view_is) c.self.invariant.consistent.tied
+
+pub returns-clause-waiting : goal.returns-clause-waiting
+returns-clause-waiting g c = rw (← c.self.view_is) c.self.invariant.waiting
