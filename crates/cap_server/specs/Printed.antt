@@ -47,7 +47,7 @@ abbrev pub Closes : ℕ → Flat resources → ℕ → List ℕ → Type 0
 Closes limit opening status out = IsStarved status out ⊎ IsClosed limit opening status out
 
 -- the port was printed, and then what came of the epochs
-pub record IsServed (limit : ℕ) (opening : Flat resources) (status : ℕ) (out : List ℕ) : Type 0 where
+pub record Listens (limit : ℕ) (opening : Flat resources) (status : ℕ) (out : List ℕ) : Type 0 where
   pub port : ℕ
   pub more : List ℕ
   pub printed : out ≡ listening_line port ++ more
@@ -55,4 +55,4 @@ pub record IsServed (limit : ℕ) (opening : Flat resources) (status : ℕ) (out
 
 -- all that a daemon prints
 abbrev pub Ends : ℕ → Flat resources → ℕ → List ℕ → Type 0
-Ends limit opening status out = IsRefused status out ⊎ IsServed limit opening status out
+Ends limit opening status out = IsRefused status out ⊎ Listens limit opening status out

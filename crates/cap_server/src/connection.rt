@@ -268,53 +268,44 @@ impl ClientSocket {
         open_session: OpenSession,
         signal: &EndSignal,
     ) -> Option<(Phase, Course)> {
-        let (end, backlog) = self.serve_session(rt, shared, seat, open_session, signal);
+        let (end, backlog) = serve_stream(
+            rt,
+            shared,
+            seat,
+            open_session,
+            &self.stream,
+            &mut self.poller,
+            &mut self.taking,
+            signal,
+        );
         let SessionEnd {
             session,
             sent: _,
             unsent: _,
             cause,
         } = end;
-        let (pending, course) = match cause {
-            EndCause::Quiet => (None, Course::Rests),
-            EndCause::Sealed(request) => (Some(request), Course::Sealed),
-            EndCause::Faulted | EndCause::NoMemory => {
-                return Some((Phase::Closing(backlog, DRAIN_READS), Course::On));
+        match cause {
+            EndCause::Quiet => {
+                let open_session = OpenSession {
+                    session,
+                    pending: None,
+                    backlog,
+                };
+                Some((Phase::Serving(open_session), Course::Rests))
             }
-            EndCause::InputEnded | EndCause::ReadFault | EndCause::WriteFault => return None,
-        };
-        let open_session = OpenSession {
-            session,
-            pending,
-            backlog,
-        };
-        Some((Phase::Serving(open_session), course))
-    }
-
-    /// Serves a session, as `serve_session` of `cap_workers` does. What it writes out is handed over, after all that was before.
-    fn serve_session<'x, J: Naming, H: Wait + Clock>(
-        &'x mut self,
-        rt: &'x H,
-        shared: &Shared<J>,
-        seat: &mut Seat<J>,
-        open_session: OpenSession,
-        signal: &'x EndSignal,
-    ) -> (SessionEnd, Backlog)
-        ensures served { IsServed J.limit open_session.session result.0.session
-            seat.old seat.new result.0.cause }
-        ensures handed_on { result.0.session.sent ≡ handed_bytes result.1 }
-    {
-        let ClientSocket {
-            stream,
-            poller,
-            taking,
-        } = self;
-        let (session, pending, backlog) = open_session.into_parts();
-        let sender = Sender::new(rt, Uninterrupted::new(&*stream), taking, signal);
-        let mut reader = Counted::new(Incoming::new(stream, poller, signal));
-        let mut writer = Counted::new(Outgoing::new(sender, backlog));
-        let end = serve_session(rt, shared, seat, session, pending, &mut reader, &mut writer);
-        (end, writer.into_inner().into_backlog())
+            EndCause::Sealed(request) => {
+                let open_session = OpenSession {
+                    session,
+                    pending: Some(request),
+                    backlog,
+                };
+                Some((Phase::Serving(open_session), Course::Sealed))
+            }
+            EndCause::Faulted | EndCause::NoMemory => {
+                Some((Phase::Closing(backlog, DRAIN_READS), Course::On))
+            }
+            EndCause::InputEnded | EndCause::ReadFault | EndCause::WriteFault => None,
+        }
     }
 
     /// Waits until something comes, or until the epoch ends, which it does where the journal is full. Whether it ends.
@@ -367,6 +358,29 @@ impl ClientSocket {
             Err(error) => error.kind() == ErrorKind::WouldBlock,
         }
     }
+}
+
+/// Serves a session over a stream, as `serve_session` does. What it writes out is handed over, after all that was before.
+fn serve_stream<'x, J: Naming, H: Wait + Clock>(
+    rt: &'x H,
+    shared: &Shared<J>,
+    seat: &mut Seat<J>,
+    open_session: OpenSession,
+    stream: &'x TcpStream,
+    poller: &'x mut Poller,
+    taking: &'x mut Poller,
+    signal: &'x EndSignal,
+) -> (SessionEnd, Backlog)
+    ensures served { IsServed J.limit open_session.session result.0.session
+        seat.old seat.new result.0.cause }
+    ensures handed_on { result.0.session.sent ≡ handed_bytes result.1 }
+{
+    let (session, pending, backlog) = open_session.into_parts();
+    let sender = Sender::new(rt, Uninterrupted::new(stream), taking, signal);
+    let mut reader = Counted::new(Incoming::new(stream, poller, signal));
+    let mut writer = Counted::new(Outgoing::new(sender, backlog));
+    let end = serve_session(rt, shared, seat, session, pending, &mut reader, &mut writer);
+    (end, writer.into_inner().into_backlog())
 }
 
 /// A session of which nothing was read. `None` if an allocation fails.

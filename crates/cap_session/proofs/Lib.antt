@@ -5,4 +5,4 @@ pub mod Answering
 mod SessionSteps
 pub mod Continuing
 mod Unanswered
-pub mod Bytes
+mod Bytes
