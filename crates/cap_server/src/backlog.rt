@@ -61,7 +61,8 @@ impl Backlog {
         ensures count { IfOk result (λ sent. IfSome sent (λ count. count ≤ length bytes.now)) }
         ensures stream { Sends (S.contents sender.old.stream) (S.contents sender.new.stream)
             result bytes.now }
-        ensures sent { Sends (Some (sent_bytes self.old)) (Some (sent_bytes self.new)) result bytes.now }
+        ensures sent { Sends (Some (sent_bytes self.old)) (Some (sent_bytes self.new))
+            result bytes.now }
         ensures kept { kept_bytes self.new ≡ kept_bytes self.old }
     {
         self.sent.send(sender, bytes)

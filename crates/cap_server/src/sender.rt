@@ -109,7 +109,8 @@ impl SentBytes {
         ensures count { IfOk result (λ sent. IfSome sent (λ count. count ≤ length bytes.now)) }
         ensures stream { Sends (S.contents sender.old.stream) (S.contents sender.new.stream)
             result bytes.now }
-        ensures log { Sends (Some (bytes_in self.old.log.items)) (Some (bytes_in self.new.log.items))
+        ensures log { Sends
+            (Some (bytes_in self.old.log.items)) (Some (bytes_in self.new.log.items))
             result bytes.now }
     {
         let sent = sender.send(&mut self.since, bytes);
