@@ -27,6 +27,7 @@ REST = 120_000_000  # more than all else takes, in bytes, and less than such a j
 CONNECTION = 3  # how many descriptors a connection takes
 DESCRIPTORS = 7 + CONNECTION  # 0 to 2, the listener, three to wait with, and one connection's
 EPOCH, CHANGES = 1000, 3  # how many entries an epoch has beside a client that takes nothing, and how many changes of epochs there are
+BUFFERS = 8192  # of a client that takes nothing, in bytes, so that it is soon full
 FULL = 0.5  # a socket that takes nothing for so many seconds is full; the daemon gives its client up after 5
 SECONDS = 20  # how long a line may take on a busy machine
 SOON = 5.0  # a daemon that can't go on ends within a second; on a busy machine it may take as many more
@@ -63,8 +64,14 @@ class Daemon:
         printed, words = self.process.communicate(timeout=30)
         return printed, words, self.process.returncode, time.monotonic() - self.began
 
-    def connect(self):
-        return socket.create_connection(("127.0.0.1", self.port), timeout=10)
+    def connect(self, buffers=None):
+        """A connection, whose client has buffers of so many bytes if a number is given."""
+        client = socket.socket()
+        client.settimeout(10)
+        for option in (socket.SO_RCVBUF, socket.SO_SNDBUF) if buffers else ():
+            client.setsockopt(socket.SOL_SOCKET, option, buffers)
+        client.connect(("127.0.0.1", self.port))
+        return client
 
 
 def line_of(process):
@@ -198,9 +205,9 @@ def check_descriptors(program):
 
 def check_backlog(program):
     """A client takes none of its answers, so that its socket is full, and epochs change meanwhile: then it gets each byte, once and in order."""
-    what, calls = "a client that takes nothing for a while", EPOCH * CHANGES
+    what, calls = "a client that takes nothing for a while", EPOCH * CHANGES + 1
     with Daemon(program, ["--workers", "1", "--connections", "2", "--journal", str(EPOCH)], []) as daemon:
-        deaf, other = daemon.connect(), daemon.connect()
+        deaf, other = daemon.connect(BUFFERS), daemon.connect()
         begun, rest = fill(deaf)
         answered = [is_answered(other) for _ in range(calls)]
         got = read_back(deaf, rest)
@@ -212,7 +219,7 @@ def check_backlog(program):
     first = next((at for at, (a, b) in enumerate(zip(got, wanted)) if a != b), min(len(got), len(wanted)))
     expect(got == wanted, what, f"{len(got)} bytes of {len(wanted)}, wrong from {first} on")
     total = begun + calls
-    expect(seen[0] == b"closed epochs=%d entries=%d\n" % (-(-total // EPOCH), total) and seen[2] == 0, what, seen)
+    expect(seen[0] == b"closed epochs=%d entries=%d\n" % (total // EPOCH + 1, total) and seen[2] == 0, what, seen)
     return 1
 
 
