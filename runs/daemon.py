@@ -1,5 +1,5 @@
 #!/usr/bin/env python3
-"""Runs `capsched serve` where the system refuses it threads, memory or descriptors, and looks at what it prints and ends with.
+"""Runs `capsched serve` where the system refuses it threads, memory or descriptors, or a client takes no answers, and looks at what it answers, prints and ends with.
 
 A thread is refused by a limit on the process's memory that is less than a thread's stack takes, which has a limit of its own. Beside each limit stands a
 control: with what one thread, one journal or one connection takes more, the daemon answers. With words this runs the programs that they name, else the
@@ -8,6 +8,7 @@ one that `./capsched` builds.
 import os
 import re
 import resource
+import select
 import socket
 import subprocess
 import sys
@@ -25,6 +26,9 @@ JOURNAL, ENTRY = 1_000_000, 376  # how many entries a journal has, and how many 
 REST = 120_000_000  # more than all else takes, in bytes, and less than such a journal
 CONNECTION = 3  # how many descriptors a connection takes
 DESCRIPTORS = 7 + CONNECTION  # 0 to 2, the listener, three to wait with, and one connection's
+EPOCH, CHANGES = 1000, 3  # how many entries an epoch has beside a client that takes nothing, and how many changes of epochs there are
+BUFFERS = 8192  # of a client that takes nothing, in bytes, so that it is soon full
+FULL = 0.5  # a socket that takes nothing for so many seconds is full; the daemon gives its client up after 5
 SECONDS = 20  # how long a line may take on a busy machine
 SOON = 5.0  # a daemon that can't go on ends within a second; on a busy machine it may take as many more
 
@@ -60,8 +64,14 @@ class Daemon:
         printed, words = self.process.communicate(timeout=30)
         return printed, words, self.process.returncode, time.monotonic() - self.began
 
-    def connect(self):
-        return socket.create_connection(("127.0.0.1", self.port), timeout=10)
+    def connect(self, buffers=None):
+        """A connection, whose client has buffers of so many bytes if a number is given."""
+        client = socket.socket()
+        client.settimeout(10)
+        for option in (socket.SO_RCVBUF, socket.SO_SNDBUF) if buffers else ():
+            client.setsockopt(socket.SOL_SOCKET, option, buffers)
+        client.connect(("127.0.0.1", self.port))
+        return client
 
 
 def line_of(process):
@@ -78,6 +88,47 @@ def free_port():
     with socket.socket() as it:
         it.bind(("127.0.0.1", 0))
         return it.getsockname()[1]
+
+
+def ask(number):
+    """ClusterInfo with this call id."""
+    return ASK[:6] + number.to_bytes(4, "big")
+
+
+def answer(number):
+    """Its answer from an empty cluster."""
+    return bytes.fromhex("00000033010a") + number.to_bytes(4, "big") + bytes(45)
+
+
+def fill(client):
+    """Sends requests, and reads nothing, until no more is taken. How many were begun, and what is still to be sent of the last."""
+    client.setblocking(False)
+    begun, rest, deadline = 0, b"", time.monotonic() + SECONDS
+    while time.monotonic() < deadline:
+        if not rest:
+            rest = b"".join(ask(begun + n) for n in range(EPOCH))
+            begun += EPOCH
+        if not select.select([], [client], [], FULL)[1]:
+            return begun, rest
+        rest = rest[client.send(rest) :]
+    sys.exit("a client that reads nothing: its socket is never full")
+
+
+def read_back(client, rest):
+    """Sends the rest and closes the client's side, and reads all that comes until the daemon closes its own, or nothing comes in time."""
+    parts, deadline = [], time.monotonic() + SECONDS
+    while time.monotonic() < deadline:
+        readable, writable, _ = select.select([client], [client] if rest else [], [], 1.0)
+        if writable:
+            rest = rest[client.send(rest) :]
+            if not rest:
+                client.shutdown(socket.SHUT_WR)
+        if readable:
+            part = client.recv(1 << 16)
+            if not part:
+                break
+            parts.append(part)
+    return b"".join(parts)
 
 
 def is_answered(client):
@@ -152,8 +203,48 @@ def check_descriptors(program):
     return 3
 
 
+def check_backlog(program):
+    """A client takes none of its answers, so that its socket is full, and epochs change meanwhile: then it gets each byte, once and in order."""
+    what, calls = "a client that takes nothing for a while", EPOCH * CHANGES + 1
+    with Daemon(program, ["--workers", "1", "--connections", "2", "--journal", str(EPOCH)], []) as daemon:
+        deaf, other = daemon.connect(BUFFERS), daemon.connect()
+        begun, rest = fill(deaf)
+        answered = [is_answered(other) for _ in range(calls)]
+        got = read_back(deaf, rest)
+        deaf.close()
+        other.close()
+        seen = daemon.ended()
+    expect(all(answered), f"calls beside {what}", answered.count(False))
+    wanted = b"".join(answer(number) for number in range(begun))
+    first = next((at for at, (a, b) in enumerate(zip(got, wanted)) if a != b), min(len(got), len(wanted)))
+    expect(got == wanted, what, f"{len(got)} bytes of {len(wanted)}, wrong from {first} on")
+    total = begun + calls
+    expect(seen[0] == b"closed epochs=%d entries=%d\n" % (total // EPOCH + 1, total) and seen[2] == 0, what, seen)
+    return 1
+
+
+def check_last(program):
+    """A client that comes after the last connection is refused, and does not hang."""
+    with Daemon(program, ["--workers", "1", "--connections", "1"], []) as daemon:
+        first = daemon.connect()
+        expect(is_answered(first), "the one connection", "no answer")
+        began = time.monotonic()
+        try:
+            with daemon.connect() as second:
+                seen = second.recv(1)
+        except ConnectionError as refused:
+            seen = refused
+        took = time.monotonic() - began
+        expect(isinstance(seen, ConnectionError) and took < SOON, "a client past the last", (seen, took))
+        expect(is_answered(first), "the one connection after that", "no answer")
+        first.close()
+        seen = daemon.ended()
+    expect(seen[0] == b"closed epochs=1 entries=2\n" and seen[2] == 0, "a daemon of one connection", seen)
+    return 1
+
+
 def check(program):
-    return check_threads(program) + check_memory(program) + check_descriptors(program)
+    return check_threads(program) + check_memory(program) + check_descriptors(program) + check_backlog(program) + check_last(program)
 
 
 def main():

@@ -188,7 +188,7 @@ fn serve_settings<
         Err(error) => return refuse(alloc, "listener", Some(error), complaint),
     };
     let tally = Tally::new();
-    let status = serve_on(rt, alloc, &listener, &words.sizes, config, &tally, writer);
+    let status = serve_on(rt, alloc, listener, &words.sizes, config, &tally, writer);
     report(alloc, &tally, complaint);
     if status == 1 && writer.failures() == 0 {
         return refuse(alloc, "listener", None, complaint);

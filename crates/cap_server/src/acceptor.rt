@@ -27,8 +27,9 @@ const FIRST: usize = 2;
 
 /// Accepts connections, and waits for those to which nothing comes.
 #[derive(Drop)]
-pub(crate) struct Acceptor<'a> {
-    listener: &'a TcpListener,
+pub(crate) struct Acceptor {
+    /// It is closed once no connection is to be accepted any more, so that the system refuses those that still come.
+    listener: Option<TcpListener>,
     poll: Poll,
     events: Events,
     /// How many of the events of the last wait were looked at.
@@ -56,15 +57,15 @@ pub(crate) enum Accept {
     Failed(io::Error, u32),
 }
 
-impl<'a> Acceptor<'a> {
-    /// Before so many connections. An error means that the system refuses, or that an allocation failed.
+impl Acceptor {
+    /// Before so many connections, at least one. An error means that the system refuses, or that an allocation failed.
     pub(crate) fn new<H: Net>(
         rt: &H,
         alloc: Global,
-        listener: &'a TcpListener,
+        listener: TcpListener,
         connections: u32,
         signal: &EndSignal,
-    ) -> io::Result<Acceptor<'a>> {
+    ) -> io::Result<Acceptor> {
         let poll = Poll::new(rt)?;
         let Ok(events) = Events::with_capacity(alloc, EVENTS) else {
             return Err(io::Error::from(ErrorKind::OutOfMemory));
@@ -74,7 +75,7 @@ impl<'a> Acceptor<'a> {
             .register(&mut SourceFd(&descriptor), LISTENER, Interest::READABLE)?;
         signal.register(poll.registry(), END)?;
         Ok(Acceptor {
-            listener,
+            listener: Some(listener),
             poll,
             events,
             seen: 0,
@@ -91,24 +92,39 @@ impl<'a> Acceptor<'a> {
     }
 
     /// Accepts a connection, if one waits and is still to come. Where the system has no descriptor or no memory for it that is said once, and it is
-    /// tried again for 5 seconds.
+    /// tried again for 5 seconds. With the last connection the listener is closed.
     pub(crate) fn accept<H: Clock>(&mut self, rt: &H) -> Accept {
-        if self.left == 0 {
+        let Some(listener) = &self.listener else {
             return Accept::Nobody;
-        }
-        match self.listener.accept() {
-            Ok((stream, _)) => {
-                let number = self.accepted;
-                self.accepted = number.saturating_add(1);
-                self.left -= 1;
-                self.since = None;
-                Accept::Accepted(stream, number)
-            }
+        };
+        match listener.accept() {
+            Ok((stream, _)) => self.take_in(stream),
             Err(error) => match error.kind() {
                 ErrorKind::WouldBlock => Accept::Nobody,
                 ErrorKind::Interrupted | ErrorKind::ConnectionAborted => Accept::GivenUp,
                 _ => self.refuse(rt, error),
             },
+        }
+    }
+
+    /// A connection that was accepted, and its number. With the last one the listener is closed.
+    fn take_in(&mut self, stream: TcpStream) -> Accept {
+        let number = self.accepted;
+        self.accepted = number.saturating_add(1);
+        self.left = self.left.saturating_sub(1);
+        self.since = None;
+        if self.left == 0 {
+            self.close();
+        }
+        Accept::Accepted(stream, number)
+    }
+
+    /// Closes the listener: the system refuses those who come from now on, and those who wait to be accepted.
+    fn close(&mut self) {
+        if let Some(listener) = self.listener.take() {
+            let descriptor = listener.as_raw_fd();
+            let _unwatched = self.poll.registry().deregister(&mut SourceFd(&descriptor));
+            drop(listener);
         }
     }
 
@@ -129,6 +145,7 @@ impl<'a> Acceptor<'a> {
         let left = self.left;
         self.left = 0;
         self.has_failed = true;
+        self.close();
         Accept::Failed(error, left)
     }
 

@@ -1,13 +1,17 @@
 //! A connection, served from epoch to epoch (`ClientConnection`).
-ghost use Rattle.std.specs.Prelude.{◌≡◌, None, IfSome};
+ghost use Rattle.std.specs.Prelude.{◌≡◌, [], None, IfSome};
 ghost use Rattle.cap_session.specs.Session.{new_session};
 ghost use Rattle.std.specs.Option.{option_to_list};
 ghost use Rattle.cap_session.specs.Session.{open_requests};
 ghost use Rattle.cap_workers.specs.Sessions.{IsServed};
+ghost use Rattle.cap_server.specs.Backlogs.{handed_bytes};
 
+use crate::backlog::Backlog;
 use crate::poller::Poller;
+use crate::sender::Sender;
 use crate::signal::EndSignal;
-use crate::streams::{Backlog, Incoming, Outgoing, Sender};
+use crate::streams::{Incoming, Outgoing};
+use crate::uninterrupted::Uninterrupted;
 use cap_base::RESOURCES;
 use cap_model::Request;
 use cap_session::{Counted, Session};
@@ -15,8 +19,7 @@ use cap_shared::{Naming, Seat, Shared};
 use cap_workers::{EndCause, SessionEnd, serve_session};
 use mio::Interest;
 use std::alloc::Global;
-use std::io::{self, ErrorKind, Read};
-use std::mem;
+use std::io::{self, ErrorKind, Read, Write};
 use std::net::{Net, Shutdown, TcpStream};
 use std::os::fd::{AsRawFd, RawFd};
 use std::sync::Wait;
@@ -25,7 +28,7 @@ use std::time::Clock;
 /// How many reads are made at most of what a client sends that is not looked at any more.
 const DRAIN_READS: u32 = 64;
 
-/// The socket of a connection, and what the client has not taken yet.
+/// The socket of a connection.
 #[derive(Drop)]
 struct ClientSocket {
     stream: TcpStream,
@@ -33,26 +36,39 @@ struct ClientSocket {
     poller: Poller,
     /// Waits until the client takes something.
     taking: Poller,
-    backlog: Backlog,
 }
 
-/// A session that has not ended, and its open request, if it has one.
+/// A session that has not ended, and its open request, if it has one. All bytes that it has written out, in order, are those that the socket has taken
+/// and then those that the backlog keeps.
 #[derive(Drop)]
 struct OpenSession {
     session: Session,
     pending: Option<Request<RESOURCES>>,
+    backlog: Backlog,
     ghost goes_on: { session.ended ≡ None },
     ghost open: { open_requests session.opens ≡ option_to_list pending },
+    ghost handed_on: { session.sent ≡ handed_bytes backlog },
 }
 
 impl OpenSession {
-    /// Its session, and the open request.
-    fn into_parts(self) -> (Session, Option<Request<RESOURCES>>)
+    /// Its session, the open request, and the backlog.
+    fn into_parts(self) -> (Session, Option<Request<RESOURCES>>, Backlog)
+        ensures session { result.0 ≡ self.session }
         ensures goes_on { result.0.ended ≡ None }
         ensures open { open_requests result.0.opens ≡ option_to_list result.1 }
+        ensures handed_on { result.0.sent ≡ handed_bytes result.2 }
     {
-        let OpenSession { session, pending } = self;
-        (session, pending)
+        let OpenSession {
+            session,
+            pending,
+            backlog,
+        } = self;
+        (session, pending, backlog)
+    }
+
+    /// Writes what the backlog keeps.
+    fn write_kept<S: Write, H: Clock>(&mut self, sender: &mut Sender<'_, S, H>) -> io::Result<()> {
+        self.backlog.write_out(sender)
     }
 }
 
@@ -62,7 +78,25 @@ enum Phase {
     /// Its requests are answered.
     Serving(OpenSession),
     /// It was answered for the last time. What it still sends is read, in so many reads at most.
-    Closing(u32),
+    Closing(Backlog, u32),
+}
+
+impl Phase {
+    /// Whether the client has not taken all yet.
+    fn is_behind(&self) -> bool {
+        match self {
+            Phase::Serving(open_session) => !open_session.backlog.is_empty(),
+            Phase::Closing(backlog, _) => !backlog.is_empty(),
+        }
+    }
+
+    /// Writes what the client has not taken yet, until it has taken all or the epoch is ending.
+    fn write_kept<S: Write, H: Clock>(&mut self, sender: &mut Sender<'_, S, H>) -> io::Result<()> {
+        match self {
+            Phase::Serving(open_session) => open_session.write_kept(sender),
+            Phase::Closing(backlog, _) => backlog.write_out(sender),
+        }
+    }
 }
 
 /// A connection from epoch to epoch.
@@ -76,19 +110,6 @@ pub(crate) struct ClientConnection {
     phase: Phase,
 }
 
-/// What came of serving a session once.
-#[derive(Drop)]
-enum Served {
-    /// Nothing came in time, or the epoch is ending.
-    Quiet(OpenSession),
-    /// The journal is full.
-    Sealed(OpenSession),
-    /// The session has ended, and what was answered last is to be read before the connection is closed.
-    Closing,
-    /// The connection has ended.
-    Over,
-}
-
 /// How a connection goes on.
 #[derive(Clone, Copy)]
 enum Course {
@@ -100,8 +121,6 @@ enum Course {
     Sealed,
     /// It is served on in the next epoch.
     Later,
-    /// It has ended.
-    Over,
 }
 
 impl ClientConnection {
@@ -127,7 +146,6 @@ impl ClientConnection {
                 stream,
                 poller,
                 taking,
-                backlog: Backlog::new(alloc),
             },
             phase: Phase::Serving(open_session),
         })
@@ -142,94 +160,106 @@ impl ClientConnection {
     pub(crate) fn is_busy(&self) -> bool {
         let is_open = match &self.phase {
             Phase::Serving(open_session) => open_session.pending.is_some(),
-            Phase::Closing(_) => true,
+            Phase::Closing(_, _) => true,
         };
-        is_open || self.socket.poller.is_ready() || !self.socket.backlog.is_empty()
+        is_open || self.socket.poller.is_ready() || self.phase.is_behind()
     }
 
-    /// Serves the connection until it ends or the epoch does. Where the journal is full the epoch ends. Whether it is to be served in the next.
+    /// Serves the connection until it ends or the epoch does. Where the journal is full the epoch ends. The connection comes back if it is to be
+    /// served in the next.
     pub(crate) fn serve<J: Naming, H: Wait + Clock>(
-        &mut self,
+        self,
         rt: &H,
         shared: &Shared<J>,
         seat: &mut Seat<J>,
         signal: &EndSignal,
-    ) -> bool {
+    ) -> Option<ClientConnection> {
+        let ClientConnection {
+            number,
+            is_watched,
+            mut socket,
+            phase,
+        } = self;
+        let phase = socket.serve_phases(rt, shared, seat, phase, signal)?;
+        Some(ClientConnection {
+            number,
+            is_watched,
+            socket,
+            phase,
+        })
+    }
+}
+
+impl ClientSocket {
+    /// Goes on with the connection until it ends or the epoch does. What is done with it in the next, if it has not ended.
+    fn serve_phases<J: Naming, H: Wait + Clock>(
+        &mut self,
+        rt: &H,
+        shared: &Shared<J>,
+        seat: &mut Seat<J>,
+        phase: Phase,
+        signal: &EndSignal,
+    ) -> Option<Phase> {
+        let mut phase = phase;
         for _ in rt.forever() {
-            if self.socket.write_kept(rt, signal).is_err() {
-                return false;
+            if self.write_kept(rt, &mut phase, signal).is_err() {
+                return None;
             }
-            if !self.socket.backlog.is_empty() {
-                return true;
+            if phase.is_behind() {
+                return Some(phase);
             }
-            match self.serve_once(rt, shared, seat, signal) {
+            let (next, course) = self.serve_once(rt, shared, seat, phase, signal)?;
+            phase = next;
+            match course {
                 Course::On => {}
-                Course::Rests => match self.socket.rest(rt, shared, signal) {
-                    Ok(true) => return true,
-                    Ok(false) => {}
-                    Err(_) => return false,
-                },
+                Course::Rests => {
+                    if self.rest(rt, shared, signal).ok()? {
+                        return Some(phase);
+                    }
+                }
                 Course::Sealed => {
                     signal.raise(rt);
-                    return true;
+                    return Some(phase);
                 }
-                Course::Later => return true,
-                Course::Over => return false,
+                Course::Later => return Some(phase),
             }
         }
         unreachable!()
     }
 
-    /// Serves the session once, or takes what a client still sends.
+    /// Writes what the client has not taken yet, until it has taken all or the epoch is ending.
+    fn write_kept<'x, H: Clock>(
+        &'x mut self,
+        rt: &'x H,
+        phase: &mut Phase,
+        signal: &'x EndSignal,
+    ) -> io::Result<()> {
+        if !phase.is_behind() {
+            return Ok(());
+        }
+        let stream = Uninterrupted::new(&self.stream);
+        phase.write_kept(&mut Sender::new(rt, stream, &mut self.taking, signal))
+    }
+
+    /// Serves the session once, or takes what a client still sends. `None` where the connection has ended.
     fn serve_once<J: Naming, H: Wait + Clock>(
         &mut self,
         rt: &H,
         shared: &Shared<J>,
         seat: &mut Seat<J>,
+        phase: Phase,
         signal: &EndSignal,
-    ) -> Course {
-        match mem::replace(&mut self.phase, Phase::Closing(0)) {
-            Phase::Serving(open_session) => {
-                let served = self.socket.serve(rt, shared, seat, open_session, signal);
-                self.after(served)
+    ) -> Option<(Phase, Course)> {
+        match phase {
+            Phase::Serving(open_session) => self.serve(rt, shared, seat, open_session, signal),
+            Phase::Closing(backlog, reads) => {
+                let left = self.drain(reads, signal)?;
+                Some((Phase::Closing(backlog, left), Course::Later))
             }
-            Phase::Closing(reads) => self.drain(reads, signal),
         }
     }
 
-    /// How the connection goes on after its session was served.
-    fn after(&mut self, served: Served) -> Course {
-        let (phase, course) = match served {
-            Served::Quiet(open_session) => (Phase::Serving(open_session), Course::Rests),
-            Served::Sealed(open_session) => (Phase::Serving(open_session), Course::Sealed),
-            Served::Closing => (Phase::Closing(DRAIN_READS), Course::On),
-            Served::Over => (Phase::Closing(0), Course::Over),
-        };
-        self.phase = phase;
-        course
-    }
-
-    /// Takes what a client still sends, in so many reads at most.
-    fn drain(&mut self, reads: u32, signal: &EndSignal) -> Course {
-        let Some(left) = self.socket.drain(reads, signal) else {
-            return Course::Over;
-        };
-        self.phase = Phase::Closing(left);
-        Course::Later
-    }
-}
-
-impl ClientSocket {
-    /// Writes what the client has not taken yet, until it has taken all or the epoch is ending.
-    fn write_kept<'x, H: Clock>(&'x mut self, rt: &'x H, signal: &'x EndSignal) -> io::Result<()> {
-        if self.backlog.is_empty() {
-            return Ok(());
-        }
-        let mut sender = Sender::new(rt, &self.stream, &mut self.taking, signal);
-        self.backlog.write_out(&mut sender)
-    }
-
-    /// Serves a session until it ends, nothing comes in time, the journal is full or the epoch is ending.
+    /// Serves a session until it ends, nothing comes in time, the journal is full or the epoch is ending. `None` where the connection has ended with it.
     fn serve<J: Naming, H: Wait + Clock>(
         &mut self,
         rt: &H,
@@ -237,36 +267,44 @@ impl ClientSocket {
         seat: &mut Seat<J>,
         open_session: OpenSession,
         signal: &EndSignal,
-    ) -> Served {
-        let (session, pending) = open_session.into_parts();
+    ) -> Option<(Phase, Course)> {
+        let (end, backlog) = serve_stream(
+            rt,
+            shared,
+            seat,
+            open_session,
+            &self.stream,
+            &mut self.poller,
+            &mut self.taking,
+            signal,
+        );
         let SessionEnd {
             session,
             sent: _,
             unsent: _,
             cause,
-        } = serve_stream(
-            rt,
-            shared,
-            seat,
-            session,
-            pending,
-            &self.stream,
-            &mut self.poller,
-            &mut self.taking,
-            &mut self.backlog,
-            signal,
-        );
+        } = end;
         match cause {
-            EndCause::Quiet => Served::Quiet(OpenSession {
-                session,
-                pending: None,
-            }),
-            EndCause::Sealed(request) => Served::Sealed(OpenSession {
-                session,
-                pending: Some(request),
-            }),
-            EndCause::Faulted | EndCause::NoMemory => Served::Closing,
-            EndCause::InputEnded | EndCause::ReadFault | EndCause::WriteFault => Served::Over,
+            EndCause::Quiet => {
+                let open_session = OpenSession {
+                    session,
+                    pending: None,
+                    backlog,
+                };
+                Some((Phase::Serving(open_session), Course::Rests))
+            }
+            EndCause::Sealed(request) => {
+                let open_session = OpenSession {
+                    session,
+                    pending: Some(request),
+                    backlog,
+                };
+                Some((Phase::Serving(open_session), Course::Sealed))
+            }
+            EndCause::Faulted | EndCause::NoMemory => {
+                Some((Phase::Closing(backlog, DRAIN_READS), Course::On))
+            }
+            EndCause::InputEnded | EndCause::ReadFault | EndCause::WriteFault => None,
         }
     }
 
@@ -322,26 +360,27 @@ impl ClientSocket {
     }
 }
 
-/// Serves a session over a stream, as `serve_session` does.
+/// Serves a session over a stream, as `serve_session` does. What it writes out is handed over, after all that was before.
 fn serve_stream<'x, J: Naming, H: Wait + Clock>(
     rt: &'x H,
     shared: &Shared<J>,
     seat: &mut Seat<J>,
-    session: Session,
-    pending: Option<Request<RESOURCES>>,
+    open_session: OpenSession,
     stream: &'x TcpStream,
     poller: &'x mut Poller,
     taking: &'x mut Poller,
-    backlog: &'x mut Backlog,
     signal: &'x EndSignal,
-) -> SessionEnd
-    requires goes_on { session.ended ≡ None }
-    requires pending { open_requests session.opens ≡ option_to_list pending }
-    ensures { IsServed J.limit session result.session seat.old seat.new result.cause }
+) -> (SessionEnd, Backlog)
+    ensures served { IsServed J.limit open_session.session result.0.session
+        seat.old seat.new result.0.cause }
+    ensures handed_on { result.0.session.sent ≡ handed_bytes result.1 }
 {
+    let (session, pending, backlog) = open_session.into_parts();
+    let sender = Sender::new(rt, Uninterrupted::new(stream), taking, signal);
     let mut reader = Counted::new(Incoming::new(stream, poller, signal));
-    let mut writer = Counted::new(Outgoing::new(rt, stream, taking, backlog, signal));
-    serve_session(rt, shared, seat, session, pending, &mut reader, &mut writer)
+    let mut writer = Counted::new(Outgoing::new(sender, backlog));
+    let end = serve_session(rt, shared, seat, session, pending, &mut reader, &mut writer);
+    (end, writer.into_inner().into_backlog())
 }
 
 /// A session of which nothing was read. `None` if an allocation fails.
@@ -350,6 +389,7 @@ fn new_open_session(alloc: Global) -> Option<OpenSession> {
     Some(OpenSession {
         session,
         pending: None,
+        backlog: Backlog::new(alloc),
     })
 }
 

@@ -20,16 +20,16 @@ use std::time::Clock;
 
 /// What goes from one epoch to the next: the cluster, and who works on it; and how many entries the last journal had.
 #[derive(Drop)]
-pub(crate) struct Carried<'a> {
+pub(crate) struct Carried {
     pub cluster: Cluster<RESOURCES>,
-    pub participants: Participants<'a>,
+    pub participants: Participants,
     pub entries: usize,
 }
 
-impl<'a> Carried<'a> {
+impl Carried {
     /// The cluster, and who works on it.
-    fn into_parts(self) -> (Cluster<RESOURCES>, Participants<'a>)
-        ensures { result.0.flat ≡ self.entry.cluster.flat }
+    fn into_parts(self) -> (Cluster<RESOURCES>, Participants)
+        ensures { result.0.flat ≡ self.cluster.flat }
     {
         let Carried {
             cluster,
@@ -42,14 +42,14 @@ impl<'a> Carried<'a> {
 
 /// An epoch over the cluster that the last one left, with a seat for each connection, each worker and the committer: its journal leads from this
 /// cluster to the one that is left. An error means that an allocation failed or that a thread could not be made; the cluster is given up then.
-pub(crate) fn epoch<'a, H: Net + Threads + Wait + Clock + Eprint + Sync, G: Gate + Sync>(
+pub(crate) fn epoch<H: Net + Threads + Wait + Clock + Eprint + Sync, G: Gate + Sync>(
     rt: &H,
     alloc: Global,
-    carried: Carried<'a>,
+    carried: Carried,
     state: &SharedState<'_, G>,
-) -> Result<Carried<'a>, NoMemory>
+) -> Result<Carried, NoMemory>
     ensures { IfOk result (λ next.
-        LeadsTo state.now.limit carried.entry.cluster.flat next.entries next.cluster.flat) }
+        LeadsTo state.now.limit carried.cluster.flat next.entries next.cluster.flat) }
 {
     match Blank::new(alloc, state.seats) {
         Ok(blank) => {
@@ -62,7 +62,6 @@ pub(crate) fn epoch<'a, H: Net + Threads + Wait + Clock + Eprint + Sync, G: Gate
 
 /// The same under a name.
 fn named_epoch<
-    'a,
     J: Naming + Send + Sync,
     H: Net + Threads + Wait + Clock + Eprint + Sync,
     G: Gate + Sync,
@@ -71,9 +70,9 @@ fn named_epoch<
     alloc: Global,
     blank: Blank,
     cluster: Cluster<RESOURCES>,
-    participants: Participants<'a>,
+    participants: Participants,
     state: &SharedState<'_, G>,
-) -> Result<Carried<'a>, NoMemory>
+) -> Result<Carried, NoMemory>
     requires named { blank.0 ≡ J.table }
     requires opening { cluster.flat ≡ J.opening }
     requires limit { state.now.limit ≡ J.limit }
@@ -94,7 +93,6 @@ fn named_epoch<
 /// Does what is to be done, in threads, until the epoch ends. Who works on comes back, with all seats. An error means that an allocation failed, or
 /// that a thread could not be made.
 fn work_all<
-    'a,
     J: Naming + Send + Sync,
     H: Net + Threads + Wait + Clock + Eprint + Sync,
     G: Gate + Sync,
@@ -103,9 +101,9 @@ fn work_all<
     alloc: Global,
     shared: &Shared<J>,
     state: &SharedState<'_, G>,
-    participants: Participants<'a>,
+    participants: Participants,
     seats: Vec<Seat<J>>,
-) -> Result<(Participants<'a>, Vec<Seat<J>>), NoMemory>
+) -> Result<(Participants, Vec<Seat<J>>), NoMemory>
     requires { state.now.seats ≡ J.seats }
     ensures { IfOk result (λ left. length left.1.items ≡ J.seats) }
 {
@@ -130,7 +128,7 @@ fn work_all<
 }
 
 /// What a closed epoch leaves for the next.
-fn carried_of<'a>(closed: Closed, participants: Participants<'a>) -> Carried<'a>
+fn carried_of(closed: Closed, participants: Participants) -> Carried
     ensures cluster { result.cluster.flat ≡ closed.cluster.flat }
     ensures entries { result.entries ≡ length closed.journal.items }
 {

@@ -2,10 +2,12 @@
 #![tactic(auto)]
 
 mod acceptor;
+mod backlog;
 mod connection;
 mod epoch;
 mod participants;
 mod poller;
+mod sender;
 mod serving;
 mod signal;
 mod state;

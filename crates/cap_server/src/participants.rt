@@ -16,19 +16,19 @@ use std::time::Clock;
 
 /// Who works on from epoch to epoch, and what is left of the last one.
 #[derive(Drop)]
-pub(crate) struct Participants<'a> {
-    pub acceptor: Acceptor<'a>,
+pub(crate) struct Participants {
+    pub acceptor: Acceptor,
     pub connections: Vec<ClientConnection>,
     pub workers: Vec<Worker>,
     pub records: Option<Records>,
 }
 
-impl<'a> Participants<'a> {
+impl Participants {
     /// Its parts, in their order.
     pub(crate) fn into_parts(
         self,
     ) -> (
-        Acceptor<'a>,
+        Acceptor,
         Vec<ClientConnection>,
         Vec<Worker>,
         Option<Records>,
@@ -43,7 +43,7 @@ impl<'a> Participants<'a> {
     }
 
     /// With what is left of an epoch.
-    pub(crate) fn with_records(self, records: Records) -> Participants<'a> {
+    pub(crate) fn with_records(self, records: Records) -> Participants {
         let Participants {
             acceptor,
             connections,
@@ -155,7 +155,7 @@ impl<J: Naming> EpochThreads<J> {
         &mut self,
         rt: &H,
         signal: &EndSignal,
-        acceptor: &Acceptor<'_>,
+        acceptor: &Acceptor,
         connection: ClientConnection,
     ) {
         if !self.is_taken_in(acceptor, connection) {
@@ -164,7 +164,7 @@ impl<J: Naming> EpochThreads<J> {
     }
 
     /// The same. Whether memory was found for it.
-    fn is_taken_in(&mut self, acceptor: &Acceptor<'_>, mut connection: ClientConnection) -> bool {
+    fn is_taken_in(&mut self, acceptor: &Acceptor, mut connection: ClientConnection) -> bool {
         if !connection.is_busy() && acceptor.watch(&mut connection) {
             return is_added(&mut self.connections, connection);
         }
@@ -190,7 +190,7 @@ impl<J: Naming> EpochThreads<J> {
     /// Takes the connection of this number, which is watched no more, out of those that have no thread.
     pub(crate) fn take_watched(
         &mut self,
-        acceptor: &Acceptor<'_>,
+        acceptor: &Acceptor,
         number: usize,
     ) -> Option<ClientConnection> {
         let mut connection = taken(&mut self.connections, number)?;
@@ -227,11 +227,11 @@ impl<J: Naming> EpochThreads<J> {
     }
 
     /// Waits for all threads. Who works on comes back, with the seats. An error means that an allocation failed, or that a thread could not be made.
-    pub(crate) fn join<'a, H: Threads + Wait>(
+    pub(crate) fn join<H: Threads + Wait>(
         mut self,
         rt: &H,
-        acceptor: Acceptor<'a>,
-    ) -> Result<(Participants<'a>, Vec<Seat<J>>), NoMemory> {
+        acceptor: Acceptor,
+    ) -> Result<(Participants, Vec<Seat<J>>), NoMemory> {
         for _ in rt.forever() {
             let Some(thread) = self.threads.pop() else {
                 break;

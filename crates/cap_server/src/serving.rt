@@ -1,8 +1,11 @@
 //! The daemon's run: its sizes (`Sizes`), one epoch after the other, and what it prints (`serve_on`).
-ghost use Rattle.std.specs.Prelude.{◌≡◌, ◌<◌, ◌↔◌, Err, IfOk, IfErr, OnOk, IsTrue};
-ghost use Rattle.cap_session.specs.Counted.{state_of, CanCount};
+ghost use Rattle.std.specs.Prelude.{◌≡◌, ◌<◌, ◌↔◌, Err, IfOk, IfErr, OnOk, MatchResult, IsTrue};
+ghost use Rattle.std.specs.Io.KnownBytes.{Appends};
+ghost use Rattle.cap_model.specs.Flat.{opened_cluster};
+ghost use Rattle.cap_session.specs.Counted.{state_of, inner_of, CanCount};
 ghost use Rattle.cap_server.specs.Bounds.{IsAllowed};
 ghost use Rattle.cap_server.specs.Epochs.{LeadsThrough, one_more};
+ghost use Rattle.cap_server.specs.Printed.{Prints, IsStarved, IsRefused, Closes, Ends, listening_line};
 
 use crate::acceptor::Acceptor;
 use crate::epoch::{Carried, epoch};
@@ -72,8 +75,9 @@ impl Totals {
 }
 
 /// Serves connections that the listener accepts, exactly as many as `sizes` says, each in a thread of its own, over one cluster with the
-/// queues of the settings, on which workers schedule, until all connections have ended. Prints `listening` with the port first, and at
-/// the end `closed` with the number of epochs and the sum of their journals' lengths. A connection that fails ends alone; the others go
+/// queues of the settings, on which workers schedule, until all connections have ended. With the last connection the listener is closed. Prints
+/// `listening` with the port first, and at the end `closed` with the number of epochs and the sum of their journals' lengths: the journals, one
+/// after the other, lead from the cluster of the settings to the last one. A connection that fails ends alone; the others go
 /// on. The result is the exit status: 0 done; 1 if the writer failed, the system has no descriptor for the daemon or a connection could not be
 /// accepted, after which those that were accepted are still served; 3 if an allocation of the daemon's own failed or a thread could not be made,
 /// after it has printed `no memory`. Standard error is told why a connection could not be accepted or set up, and at the end how many changes of
@@ -81,7 +85,7 @@ impl Totals {
 pub fn serve_on<H: Net + Threads + Wait + Clock + Eprint + Sync, G: Gate + Sync, W: Write>(
     rt: &H,
     alloc: Global,
-    listener: &TcpListener,
+    listener: TcpListener,
     sizes: &Sizes,
     config: &Config<RESOURCES>,
     gate: &G,
@@ -91,13 +95,18 @@ pub fn serve_on<H: Net + Threads + Wait + Clock + Eprint + Sync, G: Gate + Sync,
     requires writer { CanCount (state_of writer.old) }
     ensures status { result < 4 }
     ensures failed { (state_of writer.old).failures < (state_of writer.new).failures → result ≡ 1 }
+    ensures printed { Prints (state_of writer.old) (state_of writer.new)
+        (W.contents (inner_of writer.old)) (W.contents (inner_of writer.new))
+        (Ends sizes.now.journal (opened_cluster config.now) result) }
 {
+    let Some(port) = port_of(&listener) else {
+        return 1;
+    };
     let signal = match EndSignal::new(rt) {
         Ok(signal) => signal,
         Err(error) => return without_descriptor(rt, error, writer),
     };
-    let connections = sizes.connections;
-    let acceptor = match Acceptor::new(rt, alloc, listener, connections, &signal) {
+    let acceptor = match Acceptor::new(rt, alloc, listener, sizes.connections, &signal) {
         Ok(acceptor) => acceptor,
         Err(error) => return without_descriptor(rt, error, writer),
     };
@@ -105,7 +114,7 @@ pub fn serve_on<H: Net + Threads + Wait + Clock + Eprint + Sync, G: Gate + Sync,
         return no_memory(writer);
     };
     let state = SharedState::new(gate, sizes, signal);
-    match announce(alloc, listener, writer) {
+    match announce(alloc, port, writer) {
         Ok(()) => serve_all(rt, alloc, &state, carried, writer),
         Err(status) => status,
     }
@@ -116,6 +125,9 @@ fn without_descriptor<H: Eprint, W: Write>(rt: &H, error: io::Error, writer: &mu
     requires { CanCount (state_of writer.old) }
     ensures status { result < 4 }
     ensures failed { (state_of writer.old).failures < (state_of writer.new).failures → result ≡ 1 }
+    ensures printed { Prints (state_of writer.old) (state_of writer.new)
+        (W.contents (inner_of writer.old)) (W.contents (inner_of writer.new))
+        (IsRefused result) }
 {
     if error.kind() == ErrorKind::OutOfMemory {
         return no_memory(writer);
@@ -125,22 +137,21 @@ fn without_descriptor<H: Eprint, W: Write>(rt: &H, error: io::Error, writer: &mu
 }
 
 /// Prints the port of the listener. The error is the exit status.
-fn announce<W: Write>(
-    alloc: Global,
-    listener: &TcpListener,
-    writer: &mut Counted<W>,
-) -> Result<(), u8>
+fn announce<W: Write>(alloc: Global, port: u16, writer: &mut Counted<W>) -> Result<(), u8>
     requires { CanCount (state_of writer.old) }
     ensures status { IfErr result (λ status. status < 4) }
     ensures failed { (state_of writer.old).failures < (state_of writer.new).failures
         → result ≡ Err 1 }
+    ensures printed { OnOk result (Appends
+        (W.contents (inner_of writer.old)) (W.contents (inner_of writer.new))
+        (listening_line port)) }
+    ensures refused { IfErr result (λ status. Prints (state_of writer.old) (state_of writer.new)
+        (W.contents (inner_of writer.old)) (W.contents (inner_of writer.new))
+        (IsRefused status)) }
     ensures same { OnOk result
         ((state_of writer.new).failures ≡ (state_of writer.old).failures) }
     ensures more { OnOk result (CanCount (state_of writer.new)) }
 {
-    let Some(port) = port_of(listener) else {
-        return Err(1);
-    };
     let Ok(listening) = format!(in alloc; "listening {port}\n") else {
         return Err(no_memory(writer));
     };
@@ -155,12 +166,15 @@ fn serve_all<H: Net + Threads + Wait + Clock + Eprint + Sync, G: Gate + Sync, W:
     rt: &H,
     alloc: Global,
     state: &SharedState<'_, G>,
-    carried: Carried<'_>,
+    carried: Carried,
     writer: &mut Counted<W>,
 ) -> u8
     requires { CanCount (state_of writer.old) }
     ensures status { result < 4 }
     ensures failed { (state_of writer.old).failures < (state_of writer.new).failures → result ≡ 1 }
+    ensures printed { Prints (state_of writer.old) (state_of writer.new)
+        (W.contents (inner_of writer.old)) (W.contents (inner_of writer.new))
+        (Closes state.now.limit carried.cluster.flat result) }
 {
     let Ok((totals, carried)) = run_epochs(rt, alloc, state, carried) else {
         return no_memory(writer);
@@ -172,10 +186,10 @@ fn serve_all<H: Net + Threads + Wait + Clock + Eprint + Sync, G: Gate + Sync, W:
     let Ok(closed) = format!(in alloc; "closed epochs={epochs} entries={entries}\n") else {
         return no_memory(writer);
     };
-    if write_out(writer, closed.as_bytes()).is_err() || has_failed {
-        return 1;
+    match write_out(writer, closed.as_bytes()) {
+        Ok(()) => u8::from(has_failed),
+        Err(_) => 1,
     }
-    0
 }
 
 /// Tells standard error how many changes of epochs there were, and how long they took at most.
@@ -189,6 +203,9 @@ fn no_memory<W: Write>(writer: &mut Counted<W>) -> u8
     requires { CanCount (state_of writer.old) }
     ensures status { result < 4 }
     ensures failed { (state_of writer.old).failures < (state_of writer.new).failures → result ≡ 1 }
+    ensures printed { Prints (state_of writer.old) (state_of writer.new)
+        (W.contents (inner_of writer.old)) (W.contents (inner_of writer.new))
+        (IsStarved result) }
 {
     match write_out(writer, b"no memory\n") {
         Ok(()) => 3,
@@ -208,12 +225,14 @@ fn port_of(listener: &TcpListener) -> Option<u16> {
 }
 
 /// The cluster of the settings, and the workers. An error means that an allocation failed.
-fn begin<'a>(
+fn begin(
     alloc: Global,
     config: &Config<RESOURCES>,
     sizes: &Sizes,
-    acceptor: Acceptor<'a>,
-) -> Result<Carried<'a>, NoMemory> {
+    acceptor: Acceptor,
+) -> Result<Carried, NoMemory>
+    ensures { IfOk result (λ carried. carried.cluster.flat ≡ opened_cluster config.now) }
+{
     let workers = workers_of(alloc, sizes.workers)?;
     Ok(Carried {
         cluster: Cluster::from_config(alloc, config)?,
@@ -248,14 +267,14 @@ fn keep_memory(alloc: Global) {
 /// One epoch after the other, each over the cluster that the last one closed, until all connections have ended: how many there were, and what the
 /// last one left. The events of all journals, one after the other, lead from the first cluster to the last one. An error means that an
 /// allocation failed, or that a thread could not be made.
-fn run_epochs<'a, H: Net + Threads + Wait + Clock + Eprint + Sync, G: Gate + Sync>(
+fn run_epochs<H: Net + Threads + Wait + Clock + Eprint + Sync, G: Gate + Sync>(
     rt: &H,
     alloc: Global,
     state: &SharedState<'_, G>,
-    carried: Carried<'a>,
-) -> Result<(Totals, Carried<'a>), NoMemory>
+    carried: Carried,
+) -> Result<(Totals, Carried), NoMemory>
     ensures { IfOk result (λ run.
-        LeadsThrough state.now.limit carried.entry.cluster.flat run.0 run.1.cluster.flat) }
+        LeadsThrough state.now.limit carried.cluster.flat run.0 run.1.cluster.flat) }
 {
     keep_memory(alloc);
     let mut carried = carried;

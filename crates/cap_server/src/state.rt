@@ -35,6 +35,7 @@ impl<'a, G> SharedState<'a, G> {
     /// Before the first epoch.
     pub(crate) fn new(gate: &'a G, sizes: &Sizes, signal: EndSignal) -> SharedState<'a, G>
         requires { IsAllowed sizes.now }
+        ensures { result.limit ≡ sizes.now.journal }
     {
         SharedState {
             gate,

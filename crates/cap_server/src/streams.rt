@@ -1,16 +1,18 @@
 //! The reader and the writer over a connection's stream, which wait for no client once the epoch is ending.
-ghost use Rattle.std.specs.Prelude.{◌≡◌, ◌≤◌, length, IfOk, IfSome};
+ghost use Rattle.std.specs.Prelude.{◌≡◌, Some};
+ghost use Rattle.std.specs.Io.{WritesAtMost};
+ghost use Rattle.std.specs.Io.KnownBytes.{WriteAppends};
+ghost use Rattle.cap_server.specs.Sends.{IsLogged};
+ghost use Rattle.cap_server.specs.Backlogs.{sent_bytes, handed_bytes};
 
+use crate::backlog::Backlog;
 use crate::poller::Poller;
+use crate::sender::Sender;
 use crate::signal::EndSignal;
 use crate::uninterrupted::Uninterrupted;
-use std::alloc::Global;
 use std::io::{self, ErrorKind, Read, Write};
 use std::net::TcpStream;
-use std::time::{Clock, Duration, Instant};
-
-/// How long a client may take no byte, in seconds.
-const TAKES_NOTHING: u64 = 5;
+use std::time::Clock;
 
 /// Reads from a stream that does not block. It is quiet where nothing comes in 50 milliseconds, and as soon as the epoch is ending.
 #[derive(Drop)]
@@ -48,156 +50,46 @@ impl Read for Incoming<'_> {
     }
 }
 
-/// Bytes that a client has not taken yet, from one epoch to the next.
-#[derive(Drop)]
-pub(crate) struct Backlog {
-    bytes: Vec<u8>,
-    /// How many of them were taken.
-    taken: usize,
-    /// Since when the client has taken nothing.
-    since: Option<Instant>,
-}
-
-impl Backlog {
-    /// None.
-    pub(crate) fn new(alloc: Global) -> Backlog {
-        Backlog {
-            bytes: Vec::new(alloc),
-            taken: 0,
-            since: None,
-        }
-    }
-
-    pub(crate) fn is_empty(&self) -> bool {
-        self.taken >= self.bytes.len()
-    }
-
-    /// Keeps all of these bytes, and says how many they are. An error means that an allocation failed.
-    fn keep(&mut self, bytes: &[u8]) -> io::Result<usize>
-        ensures { IfOk result (λ count. count ≡ length bytes.now) }
-    {
-        match self.bytes.extend_from_slice(bytes) {
-            Ok(()) => Ok(bytes.len()),
-            Err(_) => Err(io::Error::from(ErrorKind::OutOfMemory)),
-        }
-    }
-
-    /// Writes what was kept, until the client has taken all of it, or the epoch is ending.
-    pub(crate) fn write_out<H: Clock>(&mut self, sender: &mut Sender<'_, H>) -> io::Result<()> {
-        for _ in 0..u64::MAX {
-            let (taken, mut since) = (self.taken, self.since);
-            let kept = self.bytes.get(taken..).unwrap_or(&[]);
-            if kept.is_empty() {
-                break;
-            }
-            let sent = sender.send(&mut since, kept);
-            self.since = since;
-            match sent? {
-                Some(0) => return Err(io::Error::from(ErrorKind::WriteZero)),
-                Some(count) => self.taken = taken.saturating_add(count),
-                None => return Ok(()),
-            }
-        }
-        self.bytes.clear();
-        self.taken = 0;
-        Ok(())
-    }
-}
-
-/// The writing side of a stream that does not block, and how it is waited for.
-#[derive(Drop)]
-pub(crate) struct Sender<'a, H> {
-    rt: &'a H,
-    stream: Uninterrupted<&'a TcpStream>,
-    poller: &'a mut Poller,
-    signal: &'a EndSignal,
-}
-
-impl<'a, H: Clock> Sender<'a, H> {
-    pub(crate) fn new(
-        rt: &'a H,
-        stream: &'a TcpStream,
-        poller: &'a mut Poller,
-        signal: &'a EndSignal,
-    ) -> Sender<'a, H> {
-        Sender {
-            rt,
-            stream: Uninterrupted::new(stream),
-            poller,
-            signal,
-        }
-    }
-
-    /// Writes once, and waits while the client takes nothing, from `since` on for 5 seconds. `None` where the epoch is ending meanwhile.
-    fn send(&mut self, since: &mut Option<Instant>, bytes: &[u8]) -> io::Result<Option<usize>>
-        ensures { IfOk result (λ sent. IfSome sent (λ count. count ≤ length bytes.now)) }
-    {
-        for _ in 0..u64::MAX {
-            let answer = self.stream.write(bytes);
-            self.poller.note(&answer, bytes.len());
-            match answer {
-                Ok(count) => {
-                    *since = None;
-                    return Ok(Some(count));
-                }
-                Err(error) => {
-                    if error.kind() != ErrorKind::WouldBlock {
-                        return Err(error);
-                    }
-                }
-            }
-            if self.signal.is_over() {
-                return Ok(None);
-            }
-            self.wait(since)?;
-        }
-        Ok(None)
-    }
-
-    /// Waits until the client takes something again, or for 50 milliseconds. Fails where it has taken nothing for 5 seconds.
-    fn wait(&mut self, since: &mut Option<Instant>) -> io::Result<()> {
-        let now = Instant::now(self.rt)?;
-        let begun = *since.get_or_insert(now);
-        if now.duration_since(begun) >= Duration::from_secs(TAKES_NOTHING) {
-            return Err(io::Error::from(ErrorKind::TimedOut));
-        }
-        self.poller.wait()?;
-        Ok(())
-    }
-}
-
 /// Writes to a stream that does not block. It waits while the client takes nothing, for 5 seconds at most; once the epoch is ending it keeps what
-/// the client does not take at once.
+/// the client does not take at once. What it takes it has sent, in order, but for the last bytes, which its backlog keeps.
 #[derive(Drop)]
-pub(crate) struct Outgoing<'a, H> {
-    sender: Sender<'a, H>,
-    backlog: &'a mut Backlog,
+pub(crate) struct Outgoing<'a, S, H> {
+    sender: Sender<'a, S, H>,
+    backlog: Backlog,
 }
 
-impl<'a, H: Clock> Outgoing<'a, H> {
-    pub(crate) fn new(
-        rt: &'a H,
-        stream: &'a TcpStream,
-        poller: &'a mut Poller,
-        backlog: &'a mut Backlog,
-        signal: &'a EndSignal,
-    ) -> Outgoing<'a, H> {
-        Outgoing {
-            sender: Sender::new(rt, stream, poller, signal),
-            backlog,
-        }
+impl<'a, S: Write + Drop, H: Clock> Outgoing<'a, S, H> {
+    /// Writes by this sender, after what the backlog keeps.
+    pub(crate) fn new(sender: Sender<'a, S, H>, backlog: Backlog) -> Outgoing<'a, S, H>
+        ensures { result.backlog ≡ backlog }
+    {
+        Outgoing { sender, backlog }
+    }
+
+    /// What was handed over, and what of it is kept.
+    pub(crate) fn into_backlog(self) -> Backlog
+        ensures { result ≡ self.entry.backlog }
+    {
+        let Outgoing { sender: _, backlog } = self;
+        backlog
     }
 }
 
-impl<H: Clock> Write for Outgoing<'_, H> {
-    fn write(&mut self, buf: &[u8]) -> io::Result<usize> {
+impl<S: Write, H: Clock> Write for Outgoing<'_, S, H> {
+    ghost contents = { λ s. Some (handed_bytes s.backlog) };
+
+    fn write(&mut self, buf: &[u8]) -> io::Result<usize>
+        ensures bound { WritesAtMost result buf.now }
+        ensures bytes { WriteAppends (Some (handed_bytes self.old.backlog))
+            (Some (handed_bytes self.new.backlog)) result buf.now }
+        ensures stream { IsLogged
+            (S.contents self.old.sender.stream) (S.contents self.new.sender.stream)
+            (sent_bytes self.old.backlog) (sent_bytes self.new.backlog) }
+    {
         if !self.backlog.is_empty() {
             return self.backlog.keep(buf);
         }
-        let mut since = self.backlog.since;
-        let sent = self.sender.send(&mut since, buf);
-        self.backlog.since = since;
-        match sent? {
+        match self.backlog.send(&mut self.sender, buf)? {
             Some(count) => Ok(count),
             None => self.backlog.keep(buf),
         }

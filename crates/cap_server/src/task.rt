@@ -87,15 +87,15 @@ pub(crate) fn serve<J: Naming, H: Wait + Clock, G>(
     rt: &H,
     shared: &Shared<J>,
     state: &SharedState<'_, G>,
-    mut connection: ClientConnection,
+    connection: ClientConnection,
     mut seat: Seat<J>,
 ) -> Done<J> {
-    let remains = if connection.serve(rt, shared, &mut seat, &state.signal) {
-        Remains::Connection(connection)
-    } else {
-        drop(connection);
-        state.end_connections(rt, 1);
-        Remains::Nothing
+    let remains = match connection.serve(rt, shared, &mut seat, &state.signal) {
+        Some(connection) => Remains::Connection(connection),
+        None => {
+            state.end_connections(rt, 1);
+            Remains::Nothing
+        }
     };
     Done { remains, seat }
 }

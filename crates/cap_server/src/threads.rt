@@ -28,7 +28,6 @@ const STACK: usize = 512 * 1024;
 
 /// Begins the threads of an epoch, and waits for them.
 pub(crate) fn run_threads<
-    'b,
     J: Naming + Send + Sync,
     H: Net + Threads + Wait + Clock + Eprint + Sync,
     G: Gate + Sync,
@@ -40,8 +39,8 @@ pub(crate) fn run_threads<
     coordinator: &Coordinator,
     lanes: Lanes,
     running: EpochThreads<J>,
-    participants: Participants<'b>,
-) -> Result<(Participants<'b>, Vec<Seat<J>>), NoMemory> {
+    participants: Participants,
+) -> Result<(Participants, Vec<Seat<J>>), NoMemory> {
     thread::scope(
         thread::scope_env(),
         rt,
@@ -81,12 +80,12 @@ impl<
     G: Gate + Sync,
 > EpochScope<'s, 'a, E, J, H, G> {
     /// The epoch, from its first thread to its last.
-    fn run<'b>(
+    fn run(
         &self,
         lanes: Lanes,
         mut running: EpochThreads<J>,
-        participants: Participants<'b>,
-    ) -> Result<(Participants<'b>, Vec<Seat<J>>), NoMemory> {
+        participants: Participants,
+    ) -> Result<(Participants, Vec<Seat<J>>), NoMemory> {
         let (mut acceptor, connections, workers, records) = participants.into_parts();
         let (committer, mut putters) = lanes.into_parts();
         if let Some(committer) = committer
@@ -182,7 +181,7 @@ impl<
     }
 
     /// Accepts connections, and begins a thread for each connection to which something comes, until the epoch ends.
-    fn attend(&self, running: &mut EpochThreads<J>, acceptor: &mut Acceptor<'_>) {
+    fn attend(&self, running: &mut EpochThreads<J>, acceptor: &mut Acceptor) {
         for _ in self.rt.forever() {
             self.accept_all(running, acceptor);
             if self.shared.is_full(self.rt) {
@@ -207,7 +206,7 @@ impl<
     }
 
     /// Begins a thread for each connection to which something came, unless the epoch is ending.
-    fn begin_ready(&self, running: &mut EpochThreads<J>, acceptor: &mut Acceptor<'_>) {
+    fn begin_ready(&self, running: &mut EpochThreads<J>, acceptor: &mut Acceptor) {
         for _ in self.rt.forever() {
             let Some(number) = acceptor.next_ready() else {
                 return;
@@ -219,7 +218,7 @@ impl<
     }
 
     /// Accepts the connections that wait.
-    fn accept_all(&self, running: &mut EpochThreads<J>, acceptor: &mut Acceptor<'_>) {
+    fn accept_all(&self, running: &mut EpochThreads<J>, acceptor: &mut Acceptor) {
         for _ in self.rt.forever() {
             if self.state.signal.is_over() {
                 return;
@@ -247,7 +246,7 @@ impl<
     fn welcome(
         &self,
         running: &mut EpochThreads<J>,
-        acceptor: &Acceptor<'_>,
+        acceptor: &Acceptor,
         stream: TcpStream,
         number: usize,
     ) {

@@ -115,6 +115,23 @@ impl<T> Counted<T> {
         self.error
     }
 
+    /// The reader or writer. What was counted of it is given up.
+    pub fn into_inner(self) -> T
+        ensures { result ≡ inner_of self }
+    {
+        let Counted {
+            inner,
+            failures: _,
+            quiets: _,
+            ends: _,
+            error: _,
+            reads: _,
+            given: _,
+            taken: _,
+        } = self;
+        inner
+    }
+
     /// Counts a failure, and keeps its error.
     fn fail(&mut self, error: Option<io::Error>)
         requires { CanCount (state_of self.old) }
@@ -243,8 +260,8 @@ fn classify_write(answer: &io::Result<usize>) -> Put
     }
 }
 
-// Adds the bytes to a history that only contracts read. It does nothing else.
-fn log_bytes(history: &mut Log<u8, ()>, bytes: &[u8])
+/// Adds the bytes to a history that only contracts read. It does nothing else.
+pub fn log_bytes(history: &mut Log<u8, ()>, bytes: &[u8])
     ensures { bytes_in history.new.items ≡ bytes_in history.old.items ++ bytes.now }
 {
     for byte in bytes {

@@ -8,5 +8,5 @@ mod find;
 mod session;
 
 pub use cap_model::{NoMemory, OwnedReply, Request};
-pub use counted::{Counted, Got, Put, Sent, StreamFailed, write_out};
+pub use counted::{Counted, Got, Put, Sent, StreamFailed, log_bytes, write_out};
 pub use session::{Fed, Next, Session, SessionCause};

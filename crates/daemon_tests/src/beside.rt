@@ -203,7 +203,7 @@ fn beside_both<
     let (listener, port) = listen(rt)?;
     let ((status, printed), answered) = join(
         rt,
-        || served(rt, alloc, ONE_QUEUE, &listener, &sizes, GateOf::Open),
+        || served(rt, alloc, ONE_QUEUE, listener, &sizes, GateOf::Open),
         || make_both(rt, alloc, port, trouble),
     );
     Some(Outcome {

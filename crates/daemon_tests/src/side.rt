@@ -54,7 +54,7 @@ fn beside_daemon<
     let (listener, port) = listen(rt)?;
     let ((status, printed), answered) = join(
         rt,
-        || served(rt, alloc, lines, &listener, sizes, gate),
+        || served(rt, alloc, lines, listener, sizes, gate),
         || client.talk(rt, alloc, port).unwrap_or(false),
     );
     Some(Outcome {
@@ -72,7 +72,7 @@ pub fn served<H: Net + Threads + Wait + Clock + Eprint + Sync>(
     rt: &H,
     alloc: Global,
     lines: &[u8],
-    listener: &TcpListener,
+    listener: TcpListener,
     sizes: &Sizes,
     gate: GateOf<'_>,
 ) -> (u8, Vec<u8>) {
