@@ -1,6 +1,5 @@
 -- The room for ends, as containers end.
-use Rattle.cap_commit.proofs.Prelude.{◌≡◌, ℕ, ◌+◌, ◌≤◌, Bool, true, false, List, refl, sym, ◌∙◌, arith, ◌==◌, if◌then◌else◌, Account, UsesRoom, live_of}
-use Rattle.cap_asks.specs.Apps.{ask_room, end_room, grant_room}
+use Rattle.cap_commit.proofs.Prelude.{◌≡◌, ℕ, Bool, true, false, List, refl, ◌∙◌, arith, ◌==◌, if◌then◌else◌, Account, UsesRoom}
 use Rattle.cap_commit.specs.Owners.{TakesEndRoom}
 
 none_taken : (b : Bool) → (if b then 0 else 0) ≡ (let k : ℕ = 0 in k)

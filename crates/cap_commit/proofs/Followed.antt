@@ -1,5 +1,5 @@
 -- What a cluster keeps where the tree follows whether an application waits.
-use Rattle.cap_commit.proofs.Prelude.{◌≡◌, ℕ, Bool, true, false, List, [], ◌∷◌, length, map, map-id, Option, Some, None, refl, sym, ◌∙◌, ap, subst, inl, inr, arith, ◌==◌, nat_tests, IsSome, find, filter, not, cond, if◌then◌else◌, option_map, option_map_or, kept_if, bytes_eq, All, QueueRow, Flat, App, AppTable, app_in, change_app, is_under, IsIn, IsRising, found, KeepsApp, only_app, Test, count_of, Queue, Row, IsAt, path_at, changed_at, queues_of, settings_stay, Account, HeldApps, position_of, AreConsistent, IsInLeaf, IsRowOf, IsWaitedAt, Parts, flat_of, numbers_of, waits_where}
+use Rattle.cap_commit.proofs.Prelude.{◌≡◌, ℕ, Bool, true, false, List, [], ◌∷◌, map, map-id, Option, Some, None, refl, sym, ◌∙◌, ap, subst, inl, inr, arith, ◌==◌, nat_tests, IsSome, find, cond, if◌then◌else◌, option_map, option_map_or, kept_if, All, Flat, App, AppTable, app_in, change_app, IsIn, IsRising, found, KeepsApp, only_app, Test, count_of, Queue, Row, IsAt, path_at, changed_at, queues_of, settings_stay, HeldApps, position_of, AreConsistent, IsRowOf, IsWaitedAt, Parts, waits_where}
 use Rattle.cap_asks.specs.Apps.{is_waiting}
 use Rattle.cap_model.proofs.lists.Numbered.{find_changed}
 use Rattle.cap_tree.specs.Queue.{served_above, waiting_above, waiting_less, waiting_more}

@@ -1,11 +1,11 @@
 -- What a cluster keeps where room is reserved on a node.
-use Rattle.cap_commit.proofs.Prelude.{◌≡◌, ℕ, ◌+◌, ◌<◌, ◌≤◌, Bool, true, false, cond, List, [], ◌∷◌, ◌++◌, length, map, Some, None, refl, sym, ◌∙◌, ap, subst, inl, inr, arith, IsSome, ◌==◌, find, sum_by, cases_lt, get_or_past, sum_by_push, sum_by-le-sum_by, bytes_eq-Decides, IsWithin, amount, amounts_exchanged, sum_max, zeros, amount-exchanged, fits, Flat, App, Container, NodeTable, Reservation, app_at, node_in, Sight, sight_of, NodeProposal, IsAdmissible, NeedsOf, is_grant, reason_of, ProposalKind, add_reservation, after_reserve, rejected_exactly, reserve_apart, IsIn, each_of, of_each, found, in_either, counts, counted, use_amount, Test, count_of, length_used, used_by, if_less, Measure, MayGive, use_alone, Row, applied_row, queues_of, root_use, user_row_at, count_where, position_of, AreReserved, fits_its_node, Parts, AreConsistent, IsInLeaf, IsRowOf, flat_of, of_cluster, count_positive, IsSound}
+use Rattle.cap_commit.proofs.Prelude.{◌≡◌, ℕ, ◌+◌, ◌<◌, ◌≤◌, Bool, true, false, cond, List, [], ◌∷◌, ◌++◌, length, map, Some, None, refl, sym, ◌∙◌, ap, subst, inl, inr, arith, IsSome, ◌==◌, find, sum_by, cases_lt, get_or_past, sum_by_push, sum_by-le-sum_by, bytes_eq-Decides, IsWithin, amount, amounts_exchanged, sum_max, zeros, amount-exchanged, Flat, App, Container, NodeTable, Reservation, app_at, Sight, sight_of, NodeProposal, IsAdmissible, NeedsOf, is_grant, reason_of, ProposalKind, add_reservation, after_reserve, rejected_exactly, reserve_apart, IsIn, each_of, of_each, found, in_either, counts, counted, use_amount, Test, count_of, length_used, used_by, if_less, Measure, MayGive, use_alone, Row, applied_row, queues_of, root_use, user_row_at, count_where, position_of, AreReserved, fits_its_node, Parts, AreConsistent, IsInLeaf, IsRowOf, flat_of, of_cluster, count_positive, IsSound}
 use Rattle.cap_commit.proofs.Granted.{live_few, reserved_few}
 use Rattle.cap_commit.proofs.Granting.{its_app, none_active, past_where, zero_where}
 use Rattle.cap_commit.proofs.Holding.{leaf_same, still_placed}
 use Rattle.cap_commit.proofs.Moving.{HasMoved, may_give, moved_settings, moved_stays, none_waits, of_test, tied_moved}
 use Rattle.cap_commit.proofs.RowsAt.{row_at}
-use Rattle.cap_commit.proofs.Seen.{node_there, total_seen}
+use Rattle.cap_commit.proofs.Seen.{total_seen}
 use Rattle.cap_commit.proofs.Ties.{in_queue, of_user_in}
 
 needs_reserve : {K : ℕ} (sight : Sight K) (q : NodeProposal) (k : ProposalKind) → is_grant k ≡ false → NeedsOf sight q k → NeedsOf sight q ProposalKind.Reserve

@@ -1,5 +1,5 @@
 -- The limits of queues and users, as the tree tests them and as the sight has them.
-use Rattle.cap_commit.proofs.Prelude.{◌≡◌, ℕ, ◌+◌, ◌-◌, Bool, true, false, cond, List, [], ◌∷◌, ◌++◌, length, map, Some, None, refl, sym, ◌∙◌, ap, subst, inl, inr, arith, Option, is_none, unwrap_or, option_map, not, ◌&&◌, nat_lt, filter, find, position, bytes_eq, option_map_or, option_or, list_all, prefix_len, nat_tests, ext_get_or, amount, amounts_exchanged, less, plus, zeros, amount-exchanged, amount-less, amount-zeros, length-less, earliest, holds_of, fits, times, QueueRow, Flat, App, Reservation, app_at, is_under, queue_use, user_use, Sight, QueueSight, AppSight, sight_of, queue_sight, app_sight, seen_app, seen_queue, queues_to, Reason, OverMaximum, OverUser, NodeProposal, is_grant, is_reserved_for, node_reservation, leaf_path, user_name, use_after, stays_in_maximum, stays_in_maxima, stays_in_user_limit, broken_level, fits_maximum, fits_user_limit, IsIn, each_of, find_mapped_at, map_twice, same_test, amounts_fit, fits_amounts, Measure, use_of, user_row, item_at, path_at, over_limit, Row, AreRows, IsAt, queues_of, rows_to, settings_of_row, OverLimit, Maximum, User, Parts, AreConsistent, IsRowOf, flat_of, limit_tests, size_tests, taken_back, user_counts, HeldApp, account_of}
+use Rattle.cap_commit.proofs.Prelude.{◌≡◌, ℕ, ◌+◌, Bool, true, false, cond, List, [], ◌∷◌, length, map, Some, None, refl, sym, ◌∙◌, ap, subst, inl, inr, arith, Option, is_none, unwrap_or, option_map, not, ◌&&◌, nat_lt, filter, find, position, bytes_eq, option_map_or, option_or, list_all, prefix_len, nat_tests, ext_get_or, amount, amounts_exchanged, less, plus, zeros, amount-exchanged, amount-less, amount-zeros, length-less, earliest, holds_of, fits, times, QueueRow, Flat, App, Reservation, app_at, is_under, queue_use, user_use, Sight, QueueSight, AppSight, sight_of, queue_sight, app_sight, seen_app, seen_queue, queues_to, Reason, OverMaximum, OverUser, NodeProposal, is_grant, is_reserved_for, node_reservation, leaf_path, user_name, use_after, stays_in_maximum, stays_in_maxima, stays_in_user_limit, broken_level, fits_maximum, fits_user_limit, IsIn, each_of, find_mapped_at, map_twice, same_test, amounts_fit, fits_amounts, Measure, use_of, user_row, item_at, path_at, over_limit, Row, AreRows, IsAt, queues_of, rows_to, settings_of_row, OverLimit, Maximum, User, Parts, AreConsistent, IsRowOf, flat_of, limit_tests, size_tests, taken_back, user_counts, HeldApp, account_of}
 use Rattle.cap_tree.specs.Queue as tree
 use Rattle.cap_tree.specs.Limits as limits
 use Rattle.cap_commit.proofs.RowsAt.{IsRowAt, row_at, found_row}

@@ -96,7 +96,7 @@ module _ (test : App → Bool) (g : App → App) where
         let own = h x (inl refl) in
         let now = own.it (grind (arith, nat_tests, number)) in
         let others : numbers_of test (map g apps) ≡ numbers_of test apps =
-            numbers_same apps (λ y m. let up = above (x.number + 1) high apps r.1 y m in record { number = (h y (inr m)).number; passes = (h y (inr m)).other (grind (arith, nat_tests, number, up)) }) in
+        numbers_same apps (λ y m. let up = above (x.number + 1) high apps r.1 y m in record { number = (h y (inr m)).number; passes = (h y (inr m)).other (grind (arith, nat_tests, number, up)) }) in
         let rising : IsRising (n + 1) (numbers_of test apps) high = rising_kept (λ (y : App). y.number) test (n + 1) apps high (rw (← number) r.1) in
         numbers-cons test (g x) (map g apps) ∙ (λ i. cond (now.1 i) ((own.number ∙ number) i ∷ others i) (others i)) ∙ sym (comes_first high (numbers_of test apps) rising)
         ∙ ap (with_number n) (sym (numbers-cons test x apps ∙ ap (λ b. cond b (x.number ∷ numbers_of test apps) (numbers_of test apps)) now.0))

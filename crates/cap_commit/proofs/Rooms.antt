@@ -1,5 +1,5 @@
 -- Room in a leaf for one more of its applications to wait.
-use Rattle.cap_commit.proofs.Prelude.{◌≡◌, ℕ, ◌+◌, ◌-◌, ◌<◌, ◌≤◌, Bool, true, false, cond, List, [], ◌∷◌, refl, sym, ◌∙◌, ap, inl, inr, arith, ◌&&◌, bytes_eq, bytes_turned, bytes_itself, count_by, sum_by-cons, sum_by-le-sum_by, IsIn, App, Measure, Count, IsPart, of_count, of_user, one_app, zero_count, count_in, user_row, user_counts, zero_counts, count_where, moved_own, one_where}
+use Rattle.cap_commit.proofs.Prelude.{◌≡◌, ℕ, ◌+◌, ◌-◌, ◌<◌, ◌≤◌, Bool, true, false, cond, List, [], ◌∷◌, refl, ◌∙◌, ap, inl, inr, arith, ◌&&◌, bytes_eq, bytes_turned, bytes_itself, count_by, sum_by-cons, sum_by-le-sum_by, IsIn, App, Measure, IsPart, of_user, one_app, zero_count, count_in, user_row, user_counts, zero_counts, count_where, moved_own, one_where}
 use Rattle.cap_tree.specs.Count.{count_moved}
 use Rattle.cap_tree.specs.Queue.{Users, active_of, with_count}
 use Rattle.cap_tree.specs.QueueLaws.{moved_sum}

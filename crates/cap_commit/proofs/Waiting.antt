@@ -1,6 +1,5 @@
 -- The tree knows which applications wait, as applications and rows change.
-use Rattle.cap_commit.proofs.Prelude.{◌≡◌, ℕ, ◌+◌, ◌-◌, ◌<◌, ◌≤◌, Bool, true, false, cond, List, [], ◌∷◌, ◌++◌, length, map, Option, Some, None, refl, sym, ◌∙◌, ap, subst, inl, inr, arith, not, ◌==◌, ◌&&◌, nat_tests, find, filter, if◌then◌else◌, and_parts, bytes_eq, bytes_itself, count_by, count_by-le-length, All, option_map_or, kept_if, applications_max, Flat, App, is_under, IsIn, IsRising, found, found_by_number, in_filter, in_map, of_filter, of_map, each_of, of_each, KeepsApp, only_app, Test, count_of, one_where, Measure, Queue, IsUnused, QueueRow, HoldsOfItem, Row, IsAt, item_at, moved_above, moved_at, moved_row, Count, new_app, with_row_of_path, with_settings, with_state, IsRowOf, IsWaitedAt, numbers_of, waits_where}
-use Rattle.std.specs.Prelude.{nat_lt}
+use Rattle.cap_commit.proofs.Prelude.{◌≡◌, ℕ, ◌+◌, ◌-◌, ◌<◌, ◌≤◌, Bool, true, false, List, [], ◌∷◌, ◌++◌, length, map, Option, Some, None, refl, sym, ◌∙◌, ap, subst, inl, arith, not, ◌==◌, ◌&&◌, nat_tests, find, filter, if◌then◌else◌, and_parts, bytes_eq, bytes_itself, count_by, count_by-le-length, All, option_map_or, kept_if, applications_max, Flat, App, is_under, IsIn, IsRising, found, found_by_number, in_filter, in_map, of_filter, of_map, each_of, of_each, KeepsApp, only_app, Test, count_of, one_where, Measure, Queue, IsUnused, QueueRow, HoldsOfItem, Row, IsAt, moved_above, moved_at, moved_row, Count, new_app, with_row_of_path, with_settings, with_state, IsRowOf, IsWaitedAt, numbers_of, waits_where}
 use Rattle.cap_base.specs.Limits.{number_end}
 use Rattle.cap_asks.specs.Apps.{is_waiting}
 use Rattle.cap_tree.specs.Numbers.{AreNumbers, with_number, without_number}
@@ -8,7 +7,7 @@ use Rattle.cap_tree.specs.NumberLaws.{length-with_number, length-without_number}
 use Rattle.cap_tree.specs.Queue.{active_of, served_above, waiting_above, waiting_less, waiting_more}
 use Rattle.cap_tree.specs.Waiting.{HasRoomAt, waiting_at, waits_in}
 use Rattle.cap_model.proofs.lists.Numbered.{rising_from_low, rising_kept}
-use Rattle.cap_commit.specs.Waiting.{MayBegin, MayFollow, followed_row}
+use Rattle.cap_commit.specs.Waiting.{MayFollow, followed_row}
 use Rattle.cap_commit.proofs.Moving.{under_it}
 use Rattle.cap_commit.proofs.Numbers.{length-numbers_of, numbers_entered, numbers_left, numbers_less, numbers_more, numbers_same, with_all, with_none}
 use Rattle.cap_commit.proofs.Rooms.{all_counted, fewer_pass}
@@ -30,8 +29,8 @@ other_rows apps apps' rows same a = of_each (IsWaitedAt apps') rows (λ r m. oth
 -- where nothing is there, nothing waits
 pub waited_opened : (K : ℕ) (apps : List App) (rows : List Row) → apps ≡ [] → All (λ r. IsUnused K r.item) rows → All (IsWaitedAt apps) rows
 waited_opened K apps rows none a = of_each (IsWaitedAt apps) rows (λ r m.
-  let u = each_of (λ (s : Row). IsUnused K s.item) rows a r m in
-  record { numbers = u.waiting ∙ sym (ap (numbers_of (waits_where (bytes_eq r.path))) none); count = u.waits ∙ sym (ap (count_by (waits_where (is_under r.path))) none) })
+    let u = each_of (λ (s : Row). IsUnused K s.item) rows a r m in
+    record { numbers = u.waiting ∙ sym (ap (numbers_of (waits_where (bytes_eq r.path))) none); count = u.waits ∙ sym (ap (count_by (waits_where (is_under r.path))) none) })
 
 -- after an application has entered
 pub waited_entered : (apps : List App) (rows : List Row) (n : ℕ) (leaf user : List ℕ) → All (IsWaitedAt apps) rows → All (IsWaitedAt (apps ++ new_app n leaf user ∷ [])) rows
@@ -50,12 +49,12 @@ pub record KeepsWaiting (f : Row → Row) : Type 0 where
 
 pub waited_rows : (f : Row → Row) → KeepsWaiting f → (apps : List App) (rows : List Row) → All (IsWaitedAt apps) rows → All (IsWaitedAt apps) (map f rows)
 waited_rows f k apps rows a = of_each (IsWaitedAt apps) (map f rows) (λ r m.
-  let w = of_map f rows r m in
-  let h = each_of (IsWaitedAt apps) rows a (w.0) (w.1) in
-  subst (IsWaitedAt apps) (w.2) (record {
-    numbers = k.waiting (w.0) ∙ h.numbers ∙ ap (λ p. numbers_of (waits_where (bytes_eq p)) apps) (sym (k.path (w.0)));
-    count = k.waits (w.0) ∙ h.count ∙ ap (λ p. count_by (waits_where (is_under p)) apps) (sym (k.path (w.0)));
-  }))
+    let w = of_map f rows r m in
+    let h = each_of (IsWaitedAt apps) rows a (w.0) (w.1) in
+    subst (IsWaitedAt apps) (w.2) (record {
+      numbers = k.waiting (w.0) ∙ h.numbers ∙ ap (λ p. numbers_of (waits_where (bytes_eq p)) apps) (sym (k.path (w.0)));
+      count = k.waits (w.0) ∙ h.count ∙ ap (λ p. count_by (waits_where (is_under p)) apps) (sym (k.path (w.0)));
+    }))
 
 pub moved_keeps : (K : ℕ) (leaf user : List ℕ) (old new : Count) → KeepsWaiting (moved_row K leaf user old new)
 moved_keeps K leaf user old new = record {
@@ -264,8 +263,8 @@ module _ (apps : List App) (high n : ℕ) (a : App) (rising : IsRising 1 (map (�
     -- the rows that follow it
     pub waited_followed : (rows : List Row) → All (IsWaitedAt apps) rows → All (IsWaitedAt (map changed apps)) (map (followed_row n a.leaf (is_waiting a) (is_waiting (f a))) rows)
     waited_followed rows h = of_each (IsWaitedAt (map changed apps)) (map (followed_row n a.leaf (is_waiting a) (is_waiting (f a))) rows) (λ r m.
-      let w = of_map (followed_row n a.leaf (is_waiting a) (is_waiting (f a))) rows r m in
-      subst (IsWaitedAt (map changed apps)) (w.2) (follows (is_waiting a) (is_waiting (f a)) refl refl (w.0) (each_of (IsWaitedAt apps) rows h (w.0) (w.1))))
+        let w = of_map (followed_row n a.leaf (is_waiting a) (is_waiting (f a))) rows r m in
+        subst (IsWaitedAt (map changed apps)) (w.2) (follows (is_waiting a) (is_waiting (f a)) refl refl (w.0) (each_of (IsWaitedAt apps) rows h (w.0) (w.1))))
 
   -- it leaves, once it does not wait
   pub waited_left : (rows : List Row) → All (IsWaitedAt apps) rows → All (IsWaitedAt (filter (λ (x : App). not (x.number == n)) apps)) (map (followed_row n a.leaf (is_waiting a) false) rows)

@@ -25,10 +25,10 @@ ghost use Rattle.cap_commit.specs.ClusterState.{IsRowOf, IsWaitedAt};
 ghost use Rattle.cap_laws.specs.Reservations.{kept_by_ask};
 ghost use Rattle.cap_commit.specs.Owners.{TakesEndRoom, TakesLeaver, owns, containers_owned, containers_named};
 
+use crate::following::{follow, follow_app, waits};
 use crate::limits::{Limits, limits_of};
 use crate::owner::Owner;
 use crate::queue_report::report_of;
-use crate::following::{follow, follow_app, waits};
 use cap_asks::{Apps, Position};
 use cap_model::{
     Ask, Cause, Config, End, HeartbeatReply, NoMemory, PathText, QueueReport, Reported, ShortText,

@@ -10,8 +10,8 @@ ghost use Rattle.cap_commit.specs.Admission.{taken_back};
 ghost use Rattle.cap_commit.specs.Making.{KeepsIfRejected, event_of_made};
 
 use crate::cluster::Cluster;
-use crate::made::Made;
 use crate::following::follow_app;
+use crate::made::Made;
 use cap_model::{Container, Grant, NoMemory, Proposal, Reservation, Verdict};
 use cap_vector::Resource;
 

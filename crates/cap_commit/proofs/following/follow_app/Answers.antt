@@ -1,4 +1,4 @@
-use Rattle.cap_commit.proofs.Prelude.{false, None, map-id, sym, ap, option_map_or}
+use Rattle.cap_commit.proofs.Prelude.{false, map-id, sym, ap, option_map_or}
 use Rattle.cap_asks.specs.Apps.{is_waiting}
 use Rattle.cap_commit.proofs.following.follow_app.Goals as goal
 

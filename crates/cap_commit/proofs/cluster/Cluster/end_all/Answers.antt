@@ -30,8 +30,7 @@ loop-container-smaller g c =
 pub loop-container-preserved : goal.loop-container-preserved
 loop-container-preserved g c =
     let now = c.loop-container in
-    let first = sym c.first_of.ensures.first ∙ c.in-Some.is in
-    (
+    let first = sym c.first_of.ensures.first ∙ c.in-Some.is in (
       one_ended c.args.cause (owns c.args.owner) c.args.self.now.flat now.self.flat now.ended now.invariant.0 c.first_of.ensures.numbers c.first_of.ensures.few c.in-Some.container first c.end.new.self.flat c.end.ensures.ended,
       more_ends c.args.self.now.accounts now.self.accounts c.end.new.self.accounts now.invariant.1 (one_end _ now.self.accounts c.end.new.self.accounts c.end.ensures.room),
     )

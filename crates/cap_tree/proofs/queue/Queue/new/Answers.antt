@@ -1,4 +1,4 @@
-use Rattle.cap_tree.proofs.Prelude.{◌≡◌, ◌≤◌, ◌∙◌, ap, subst, sym, arith, Count, shares, sum-no_users, vec_capacity}
+use Rattle.cap_tree.proofs.Prelude.{◌≡◌, ◌∙◌, ap, arith, Count, shares, sum-no_users}
 use Rattle.cap_tree.proofs.Sizes.{amounts_in_queue, shares_in_queue}
 use Rattle.cap_tree.proofs.Users.{users_of}
 use Rattle.cap_tree.specs.Queue.{active_of}
