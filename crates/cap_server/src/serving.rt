@@ -1,5 +1,5 @@
 //! The daemon's run: its sizes (`Sizes`), one epoch after the other, and what it prints (`serve_on`).
-ghost use Rattle.std.specs.Prelude.{◌≡◌, ◌<◌, ◌↔◌, Err, IfOk, IfErr, OnOk, MatchResult, IsTrue};
+ghost use Rattle.std.specs.Prelude.{◌≡◌, ◌<◌, ◌≤◌, ◌↔◌, Err, IfOk, IfErr, OnOk, MatchResult, IsTrue};
 ghost use Rattle.std.specs.Io.KnownBytes.{Appends};
 ghost use Rattle.cap_model.specs.Flat.{opened_cluster};
 ghost use Rattle.cap_session.specs.Counted.{state_of, inner_of, CanCount};
@@ -187,9 +187,16 @@ fn serve_all<H: Net + Threads + Wait + Clock + Eprint + Sync, G: Gate + Sync, W:
         return no_memory(writer);
     };
     match write_out(writer, closed.as_bytes()) {
-        Ok(()) => u8::from(has_failed),
+        Ok(()) => closing_status(has_failed),
         Err(_) => 1,
     }
+}
+
+/// The exit status once all is printed: 1 if a connection could not be accepted.
+fn closing_status(has_failed: bool) -> u8
+    ensures { result ≤ 1 }
+{
+    if has_failed { 1 } else { 0 }
 }
 
 /// Tells standard error how many changes of epochs there were, and how long they took at most.
