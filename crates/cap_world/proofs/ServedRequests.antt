@@ -4,10 +4,18 @@ use Rattle.cap_session.specs.declared.session.SessionCause.TheVariants as causes
 use Rattle.cap_session.specs.declared.session.Fed.TheVariants as feds
 use Rattle.cap_session.specs.declared.session.Next.TheVariants as nexts
 use Rattle.cap_world.specs.declared.connection.Standing.TheVariants as standings
+use Rattle.cap_session.specs.Session.{MayAnswer}
+use Rattle.cap_grammar.specs.Spelling.{IsOfKind, kind_of}
+use Rattle.cap_world.specs.Serving.{IsOpenFor}
 
 pub run_more : (es fs : List (Event resources)) (a b c : Flat resources) → Run a es b → Run b fs c → Run a (es ++ fs) c
 run_more [] fs a b c e run = subst (λ (x : Flat resources). Run x fs c) (sym e) run
 run_more (e ∷ es) fs a b c run more = (run.0, run.1, run_more es fs run.0 b c run.2 more)
+
+-- a reply of the kind of the open request may answer it
+pub may_answer : (request : Request resources) (opens : List OpenRequest) (reply : Reply resources) → IsOpenFor request opens → IsOfKind (kind_of request) reply → MayAnswer opens reply
+may_answer request [] reply is kind = absurd is
+may_answer request (o ∷ opens) reply is kind = subst (λ (q : Request resources). IsOfKind (kind_of q) reply) (sym is) kind
 
 -- no call was made
 serves_quiet : (by : ℕ) (more : List ℕ) (s t : SessionState) (cluster : Flat resources) (events : List (Event resources)) (last : List ℕ) → Continues s t more [] last → Serves by more s t cluster cluster events events last
