@@ -1,4 +1,5 @@
 //! Whether two replies are the same (`is_same`), and two clusters, as far as anybody can see (`are_alike`, `report_alike`).
+ghost use Rattle.cap_model.specs.Reporting.{HasNumbers};
 
 use crate::spelling::{Call, frame};
 use cap_asks::App;
@@ -188,7 +189,9 @@ fn reply(
     alloc: Global,
     cluster: &mut Cluster<RESOURCES>,
     request: &Request<RESOURCES>,
-) -> Reply<RESOURCES> {
+) -> Reply<RESOURCES>
+    ensures { HasNumbers cluster.new.flat result }
+{
     match dispatch(alloc, cluster, request) {
         ReplyWith::Refused(Refusal::NoMemory) => dispatch(alloc, cluster, request),
         reply => reply,
