@@ -3,7 +3,7 @@ use Rattle.cap_base.specs.Limits.{resources}
 use Rattle.cap_model.specs.declared.request.Request.{Request}
 use Rattle.cap_model.specs.News.{Reply}
 use Rattle.cap_session.specs.Session.{SessionState, OpenRequest, open_requests, with_answer}
-use Rattle.engine_tests.proofs.refusals.sessions.answer.Goals as goal
+use Rattle.refusal_cases.proofs.sessions.answer.Goals as goal
 
 -- where one request is open, none is once it was answered
 last : (opens : List OpenRequest) (request : Request resources) (s : SessionState) (reply : Reply resources) → open_requests opens ≡ request ∷ [] → (with_answer s opens reply).opens ≡ []
@@ -19,3 +19,6 @@ returns-in-RegisterNode c = ap (λ (s : SessionState). s.opens) c.answer-in-Regi
 
 pub returns-in_default : goal.returns-in_default
 returns-in_default c = ap (λ (s : SessionState). s.opens) c.answer-in_default.ensures.answered ∙ last c.args.session.now.opens c.args.request.now c.args.session.now _ c.requires
+
+pub returns-in-Refused-NoMemory : goal.returns-in-Refused-NoMemory
+returns-in-Refused-NoMemory c = ap (λ (s : SessionState). s.opens) c.answer-in-Refused-NoMemory.ensures.answered ∙ last c.args.session.now.opens c.args.request.now c.args.session.now _ c.requires
