@@ -20,16 +20,14 @@ fn is_made<H: Wait>(rt: &H, alloc: Global, case: &Case) -> bool {
     }
 }
 
-/// How many of the cases were made, all of which are before the first that was not.
+/// How many of the cases were made before the first that was not.
 fn made<H: Wait>(rt: &H, alloc: Global, cases: &[Case]) -> usize {
-    let mut made = 0;
-    for case in cases {
+    for (i, case) in cases.iter().enumerate() {
         if !is_made(rt, alloc, case) {
-            return made;
+            return i;
         }
-        made += 1;
     }
-    made
+    cases.len()
 }
 
 fn main(rt: HostRuntime) -> io::Result<()> {
