@@ -30,11 +30,11 @@ const USES: [ChangeAt; 4] = [
 ];
 
 /// No index.
-const NONE: u32 = 99;
+const NONE: u64 = 99;
 
 /// Where what waits does so, by index, and the indexes in the order of service: at each level the least full queue that something
 /// waits in comes first and the full one last, a queue before those under it, and of two at one queue the earlier index.
-const WALKS: [(&[&str], [u32; 8]); 8] = [
+const WALKS: [(&[&str], [u64; 8]); 8] = [
     (&[], [NONE, NONE, NONE, NONE, NONE, NONE, NONE, NONE]),
     (&["root.b"], [0, NONE, NONE, NONE, NONE, NONE, NONE, NONE]),
     (
@@ -98,7 +98,7 @@ fn wait_at_each(
 }
 
 /// The index that is served after that one, the first where none is named.
-fn next_of(waiting: &Waiting, places: &[Path<Global>], last: Option<u32>) -> Option<u32>
+fn next_of(waiting: &Waiting, places: &[Path<Global>], last: Option<u64>) -> Option<u64>
     requires places { waiting.now.waiting ≡ map (λ place. place.items) places.now }
     requires last { IfSome last (λ index. index < length places.now) }
     ensures { IfSome result (λ index. index < length places.now) }
@@ -111,7 +111,7 @@ fn next_of(waiting: &Waiting, places: &[Path<Global>], last: Option<u32>) -> Opt
 
 /// The indexes of what waits at these paths, in the order of service, where the queues are sorted before or not. `None` if more comes
 /// after 8, or an allocation fails.
-fn walked(alloc: Global, tree: &Tree, paths: &[&str], is_sorted: bool) -> Option<[u32; 8]> {
+fn walked(alloc: Global, tree: &Tree, paths: &[&str], is_sorted: bool) -> Option<[u64; 8]> {
     if paths.len() > 8 {
         return None;
     }
@@ -134,7 +134,7 @@ fn walked(alloc: Global, tree: &Tree, paths: &[&str], is_sorted: bool) -> Option
     if next.is_some() { None } else { Some(order) }
 }
 
-fn walked_in_uses(alloc: Global, paths: &[&str], is_sorted: bool) -> Option<[u32; 8]> {
+fn walked_in_uses(alloc: Global, paths: &[&str], is_sorted: bool) -> Option<[u64; 8]> {
     let tree = tree_after(alloc, WALKED_QUEUES, &USES)?;
     walked(alloc, &tree, paths, is_sorted)
 }
