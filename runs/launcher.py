@@ -112,6 +112,13 @@ def write_kit(folder, what):
     os.mkfifo(f"{folder}/stopped")
 
 
+def begin(cores):
+    """What the launcher begins with: an interrupt ends it, also where these tests run behind a shell that ignores them."""
+    signal.signal(signal.SIGINT, signal.SIG_DFL)
+    if cores:
+        os.sched_setaffinity(0, sorted(os.sched_getaffinity(0))[:cores])
+
+
 class Launcher(unittest.TestCase):
     def setUp(self):
         room = tempfile.TemporaryDirectory(prefix="launcher-")
@@ -127,8 +134,7 @@ class Launcher(unittest.TestCase):
     def start(self, *words, cores=None):
         within = {**os.environ, "PATH": f"{self.kit}/bin{self.tools}"}
         how = {"stdout": subprocess.PIPE, "stderr": subprocess.PIPE, "text": True, "env": within}
-        limit = cores and (lambda: os.sched_setaffinity(0, sorted(os.sched_getaffinity(0))[:cores]))
-        started = subprocess.Popen([sys.executable, f"{self.top}/capsched", *words], preexec_fn=limit, **how)
+        started = subprocess.Popen([sys.executable, f"{self.top}/capsched", *words], preexec_fn=lambda: begin(cores), **how)
         for end in (started.stderr.close, started.stdout.close, started.wait, started.kill):
             self.addCleanup(end)
         return started
