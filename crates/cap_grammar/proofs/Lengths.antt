@@ -1,7 +1,7 @@
 -- How long the spelling of news is.
 use Rattle.cap_grammar.proofs.Prelude.{◌≡◌, ℕ, ◌*◌, ◌≤◌, true, List, [], ◌∷◌, ◌++◌, length, take, length-append, arith, nat_le, nat_lt, ◌&&◌, flat_map, list_all, AllByRecursion, w32, w64, to_be_bytes, and_parts, nat_tests, length-take, is_graphic, Grant, End, is_place, text, resource, grant, FitsGrant, end}
 
-length_amounts : (v : List ℕ) → length (flat_map (to_be_bytes w64) v) ≡ 8 * length v
+pub length_amounts : (v : List ℕ) → length (flat_map (to_be_bytes w64) v) ≡ 8 * length v
 length_amounts [] = omega arith
 length_amounts (n ∷ v) = omega (arith, length-append (to_be_bytes w64 n) (flat_map (to_be_bytes w64) v), length_amounts v)
 

@@ -4,7 +4,7 @@ pub use Rattle.std.proofs.Math.Seq.{drop-drop}
 pub use Rattle.std.proofs.lemmas.Bool.{and_parts, cases_lt, eqb-true, le-ltb, leb-true, lt-ltb, ltb-false, or_cases}
 pub use Rattle.std.proofs.lemmas.Bool.Decides.{nat_tests}
 pub use Rattle.std.proofs.lemmas.List.{append-nil, drop_all, drop_at, get_or-append-add, get_or-take, get_or_past, length-replicate, length-take, nil_from_length, replicate-append-replicate, take-append-drop, take-replicate, take_all, take_at}
-pub use Rattle.std.proofs.lemmas.List.Elements.{All-append, All-cons, All-from_recursion, All-nil}
+pub use Rattle.std.proofs.lemmas.List.Elements.{All-append, All-cons, All-from_get_or, All-from_recursion, All-nil, recursion_from_All}
 pub use Rattle.std.proofs.lemmas.Nat.{be_bytes_2, be_bytes_4, be_bytes_8, from_be_bytes-to_be_bytes_2, from_be_bytes-to_be_bytes_4, from_be_bytes-to_be_bytes_8}
 pub use Rattle.std.proofs.lemmas.Result.{err_from_is_err_and}
 pub use Rattle.std.specs.Int.{Width, byte_len, from_be_bytes, to_be_bytes, w16, w32, w64}
@@ -24,7 +24,7 @@ pub use Rattle.cap_grammar.specs.Laws.{node_with_two_amounts}
 pub use Rattle.cap_grammar.specs.Reading.{CarriesItems, GivesInMemory}
 unfoldable pub use Rattle.cap_grammar.specs.Reading.{a_head, request_at}
 pub use Rattle.cap_grammar.specs.Shown.{IsShownVector, shown, shown_amounts, shown_grant, shown_news}
-pub use Rattle.cap_grammar.specs.Spelling.{FitsAsk, FitsEnd, FitsGrant, FitsListed, FitsRefusal, FitsReply, FitsRequest, IsKind, IsNoRequest, IsOfKind, IsReply, IsRequest, byte, fault_reply, flag, kind_of, limit, refusal_bytes, reply_body, reply_bytes, request_body, request_bytes, text}
+pub use Rattle.cap_grammar.specs.Spelling.{FitsAsk, FitsByte, FitsEnd, FitsGrant, FitsListed, FitsNumber, FitsRefusal, FitsReply, FitsRequest, IsKind, IsNoRequest, IsOfKind, IsReply, IsRequest, byte, fault_reply, flag, kind_of, limit, refusal_bytes, reply_body, reply_bytes, request_body, request_bytes, text}
 unfoldable pub use Rattle.cap_grammar.specs.Spelling.{allocate_bytes, ask, beat, cluster_report, end, grant, list_bytes, queue_report, resource}
 pub use Rattle.cap_grammar.specs.Texts.{is_host, is_path, is_place, is_rack, is_user}
 pub use Rattle.cap_grammar.specs.Versions.{amounts_in, is_version}

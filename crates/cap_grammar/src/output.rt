@@ -1,4 +1,5 @@
-//! What replies are written into (`Out`), the room that they take (`REPLY_ROOM`, `FAULT_ROOM`), and amounts written.
+//! What messages are written into (`Out`), the room that they take (`REPLY_ROOM`, `FAULT_ROOM`, `REQUEST_ROOM`), and amounts
+//! written.
 ghost use Rattle.std.specs.Prelude.{◌≡◌, ◌≤◌, ◌+◌, ◌++◌, length};
 ghost use Rattle.cap_base.specs.Limits.{resources};
 ghost use Rattle.cap_vector.specs.Vector.{IsVector};
@@ -10,7 +11,7 @@ use bytes::BytesMut;
 use cap_base::RESOURCES;
 use cap_vector::Amounts;
 
-/// What replies are written into.
+/// What replies and requests are written into.
 pub type Out = BytesMut;
 
 /// The room that the longest reply takes, in bytes, with the four bytes of a frame's length before it.
@@ -19,7 +20,10 @@ pub const REPLY_ROOM: usize = 8083;
 /// The room that the reply to a payload or a frame that is no request takes, in bytes.
 pub const FAULT_ROOM: usize = 7;
 
-const _: () = prove!(REPLY_ROOM == 8_083 && FAULT_ROOM == 7);
+/// The room that the longest request takes, in bytes: as many as a frame's payload has.
+pub const REQUEST_ROOM: usize = 65_536;
+
+const _: () = prove!(REPLY_ROOM == 8_083 && FAULT_ROOM == 7 && REQUEST_ROOM == 65_536);
 
 // The amounts of a vector that a version spells: memory and vcores, and in version 2 GPUs.
 #[tactic(auto, unfolding(crate::specs::Spelling::resource))]

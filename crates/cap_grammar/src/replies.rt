@@ -26,8 +26,8 @@ pub const BAD_LENGTH: u8 = 40;
 /// The status of the reply to a payload that is no request.
 pub const BAD_MESSAGE: u8 = 41;
 
-// Version, kind and call id.
-fn put_head(version: u8, kind: u8, call_id: u32, out: &mut Out)
+/// Version, kind and call id.
+pub(crate) fn put_head(version: u8, kind: u8, call_id: u32, out: &mut Out)
     requires { 6 ≤ out.old.spare }
     ensures appends { out.new.items ≡ out.old.items ++ version ∷ kind ∷ to_be_bytes w32 call_id }
     ensures spare { out.new.spare + 6 ≡ out.old.spare }
