@@ -27,6 +27,7 @@ pub const FAULT_ROOM: usize = 7;
 pub const REQUEST_ROOM: usize = 65_536;
 
 const _: () = prove!(REPLY_ROOM == 8_083 && SHORT_ROOM == 90);
+
 const _: () = prove!(FAULT_ROOM == 7 && REQUEST_ROOM == 65_536);
 
 // The amounts of a vector that a version spells: memory and vcores, and in version 2 GPUs.

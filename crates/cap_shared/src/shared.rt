@@ -82,11 +82,7 @@ impl<'a, J: Naming> Drop for Hold<'a, J> {
 impl<'a, J: Naming> Hold<'a, J> {
     /// Makes a call, as `Shared::call`; its reply is in the last receipt of the seat. The entry and the receipt share the lists of the
     /// request.
-    pub fn call(
-        &mut self,
-        seat: &mut Seat<J>,
-        request: &Request<RESOURCES>,
-    ) -> Result<(), Fault>
+    pub fn call(&mut self, seat: &mut Seat<J>, request: &Request<RESOURCES>) -> Result<(), Fault>
         ensures answer { MatchResult result (λ _. IsCalled request.now seat.old seat.new)
             (CallMisses request.now J.limit seat.old seat.new) }
     {
