@@ -5,6 +5,7 @@ mod batches;
 mod coordinator;
 mod gate;
 mod pause;
+mod replica_turns;
 mod scheduling;
 mod sessions;
 mod worker;
