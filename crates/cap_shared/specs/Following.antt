@@ -1,5 +1,5 @@
 -- What a replica has followed of the journal, and what is new to it.
-use Rattle.std.specs.Prelude.{◌≡◌, ◌⊎◌, ℕ, ◌+◌, ◌<◌, ◌^◌, Bool, true, false, List, [], ◌∷◌, ◌++◌, length, map, flat_map, take, if◌then◌else◌}
+use Rattle.std.specs.Prelude.{◌≡◌, ◌⊎◌, ℕ, ◌+◌, ◌<◌, ◌^◌, List, [], ◌∷◌, ◌++◌, length, map, flat_map, take, if◌then◌else◌}
 use mathlib.Core.List.{IsPrefix}
 use Rattle.cap_base.specs.Limits.{resources}
 use Rattle.cap_model.specs.Flat.{Flat}
@@ -62,8 +62,3 @@ Follows log (Noted entries a ∷ ms) = IsPrefix log entries ⊎ Follows log ms
 pub record IsNews (opening : Flat resources) (log : List Entry) (old new : Sitting) (news : List Entry) : Type 0 where
   pub leads : LeadsOn opening log news
   pub noted : HasMore old new (Noted (log ++ news) answer.Copied ∷ [])
-
--- whether a copy is noted, with these entries
-abbrev pub NotesIf : Bool → List Entry → Sitting → Sitting → Type 0
-NotesIf true log old new = HasMore old new (Noted log answer.Copied ∷ [])
-NotesIf false log old new = new ≡ old

@@ -8,7 +8,7 @@ ghost use Rattle.cap_copy.specs.Sources.{sight_of_copy};
 ghost use Rattle.cap_model.specs.Admission.{reason_of};
 ghost use Rattle.cap_commit.specs.Admission.{taken_back};
 ghost use Rattle.cap_shared.specs.Calls.{CallsOk, IsCalledOn, CallMisses, CommitAnswers, CommitsBack, CopyIs, TellsFull, TellsFullFirst};
-ghost use Rattle.cap_shared.specs.Following.{Follows, IsNews, NotesIf};
+ghost use Rattle.cap_shared.specs.Following.{Follows, IsNews};
 
 use crate::call_room::{CallRoom, is_no_memory, make_call, own_copies};
 use crate::entry::{Entry, Receipt};
@@ -302,28 +302,6 @@ impl<J: Naming> Desk<J> {
         };
         note_copied(word, &mut self.pass, &self.journal, &mut seat.pass);
         Ok(news)
-    }
-
-    /// Notes a copy at a seat where a replica is the cluster as it is: whether it is. The replica follows what another seat was noted, which is
-    /// answered nothing here.
-    pub fn note_followed(
-        &mut self,
-        word: &Word,
-        seat: &mut Seat<J>,
-        follower: &mut Seat<J>,
-        replica: &Replica<J>,
-    ) -> bool
-        requires word { (word.now.table_id ≡ J.table) × (0 < word.now.table_id.words) }
-        requires follows { Follows replica.now.log follower.old.past }
-        ensures noted { NotesIf result replica.now.log seat.old seat.new }
-        ensures follower { follower.new ≡ follower.old }
-    {
-        if replica.followed() != self.journal.len() {
-            return false;
-        }
-        compare(word, &mut self.pass, &self.journal, &mut follower.pass);
-        note_copied(word, &mut self.pass, &self.journal, &mut seat.pass);
-        true
     }
 
     /// The last snapshot that was shown, where it shows the cluster as it is, which is noted. Else nothing changes.

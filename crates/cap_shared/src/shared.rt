@@ -4,7 +4,7 @@ ghost use Rattle.std.specs.Arc.{arc_value};
 ghost use Rattle.cap_base.specs.Limits.{resources};
 ghost use Rattle.cap_copy.specs.Snapshot.{sight_in};
 ghost use Rattle.cap_copy.specs.Sources.{sight_of_copy};
-ghost use Rattle.cap_shared.specs.Following.{Follows, IsNews, NotesIf};
+ghost use Rattle.cap_shared.specs.Following.{Follows, IsNews};
 ghost use Rattle.cap_shared.specs.Calls.{CallsOk, IsCalled, CallsBack, CallMisses, CommitAnswers, CommitsBack, CopyIs};
 ghost use Rattle.cap_shared.specs.Journal.{Replays, TagsBelow, AllHonest};
 ghost use Rattle.cap_shared.specs.Parts.{report_of};
@@ -139,21 +139,6 @@ impl<'a, J: Naming> Hold<'a, J> {
             (λ _. seat.new ≡ seat.old) }
     {
         self.desk.news(self.alloc, self.word, seat, replica)
-    }
-
-    /// Notes a copy at a seat where a replica is the cluster as it is: whether it is. The replica follows what another seat was noted, which is
-    /// answered nothing here. It takes no memory.
-    pub fn note_followed(
-        &mut self,
-        seat: &mut Seat<J>,
-        follower: &mut Seat<J>,
-        replica: &Replica<J>,
-    ) -> bool
-        requires { Follows replica.now.log follower.old.past }
-        ensures noted { NotesIf result replica.now.log seat.old seat.new }
-        ensures follower { follower.new ≡ follower.old }
-    {
-        self.desk.note_followed(self.word, seat, follower, replica)
     }
 
     /// The last snapshot that was shown, where it shows the cluster as it is. Else there is none, and nothing changes.

@@ -3,15 +3,16 @@
 
 mod batches;
 mod coordinator;
+mod follower;
 mod gate;
 mod pause;
-mod replica_turns;
 mod scheduling;
 mod sessions;
 mod worker;
 
 pub use cap_lanes::{Committer, Ended, LanesClosed, PutFault, Putter, lanes};
 pub use coordinator::Coordinator;
+pub use follower::Follower;
 pub use gate::{CommitOutcome, Gate, OpenGate, Point, Tally};
 pub use scheduling::{StopSignal, commit_all, schedule, schedule_by_lane};
 pub use sessions::{EndCause, SessionEnd, serve_session};
