@@ -1,5 +1,6 @@
 pub mod Entries
 pub mod Keeping
+pub mod KeptAsks
 pub mod Changing
 mod Prelude
 pub mod Slots

@@ -11,14 +11,14 @@ pub use Rattle.std.proofs.lemmas.Map.Made.{lookup-map_values}
 pub use Rattle.std.proofs.lemmas.Option.{get_or_from_slice_get, slice_get-map, slice_get_read, slice_get_within}
 pub use Rattle.std.specs.BTreeMap.{insert_entry, is_at}
 pub use Rattle.std.specs.Cmp.{nat_cmp_is, nat_eq_equiv, unsigned_ties}
-pub use Rattle.std.specs.List.{All, fold, slice_get}
+pub use Rattle.std.specs.List.{All, AllByRecursion, fold, slice_get}
 pub use Rattle.std.specs.List.Sorted.{IsBinarySearchResult}
 pub use Rattle.std.specs.Map.{lookup, remove_entry, set_value}
 pub use Rattle.std.specs.Option.{option_map_or}
 pub use Rattle.std.specs.Prelude.{Box, Err, IfSome, IsSome, None, Ok, OnOk, Option, Result, Some, filter, find, if◌then◌else◌, insert, nat_eq, nat_lt, not, option_and_then, option_map, remove, slice_index_or, slice_set, ◌&&◌, ◌==◌, ◌||◌}
 pub use Rattle.std.specs.declared.cmp.Ordering.TheVariants.{Greater}
 pub use Rattle.cap_asks.specs.Accounts.{Account, AreAfter, AreKept, HasRoom, HeldApp, HeldAsks, HeldNews, IsKeyIndex, TakesRoom, index_of, is_before, key_slot}
-pub use Rattle.cap_asks.specs.Apps.{AreIndexed, AreNumbered, HasRooms, IsEntered, IsLeft, UsesRoom, account_of, entries_at, held_at, is_waiting, new_account, nobody, with_entry, without_entry, waiting_of}
+pub use Rattle.cap_asks.specs.Apps.{AreAllKept, AreIndexed, AreNumbered, HasRooms, IsEntered, IsLeft, UsesRoom, account_of, entries_at, held_at, is_waiting, new_account, nobody, with_entry, without_entry, waiting_of}
 pub use Rattle.cap_base.proofs.lists.Filters.{length-kept}
 pub use Rattle.cap_base.proofs.lists.Members.{of_filter}
 pub use Rattle.cap_base.proofs.lists.Tests.{first_is}

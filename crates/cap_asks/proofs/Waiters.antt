@@ -1,5 +1,5 @@
 -- The applications that wait, as entries of the index.
-use Rattle.cap_asks.proofs.Prelude.{◌≡◌, ◌≢◌, ℕ, zero, suc, ◌+◌, ◌≤◌, ◌<◌, Bool, true, false, cond, inl, inr, not, List, [], ◌∷◌, ◌++◌, length, length-append, take, map, filter, refl, sym, ◌∙◌, ap, subst, arith, nat_cmp, get_or, Box, Result, is_some, Some, None, Ok, Err, nat_eq, nat_lt, option_map, insert, remove, ◌==◌, slice_get, Slab, Updates, with_value, get, ContainsKey, IsBinarySearchResult, lookup, set_value, remove_entry, is_at, insert_entry, option_map_or, nat_tests, length-map, map_push, take_at, append_cancel_left, searched, slice_get-map, slice_get_read, IsIn, IsRising, length-kept, of_filter, App, AppTable, change_app, add_app, new_app, rising_kept, Account, HeldApp, TakesRoom, remove_app, AreNumbered, AreIndexed, IsLeft, UsesRoom, account_of, is_waiting, waiting_of, entries_at, held_at, nobody}
+use Rattle.cap_asks.proofs.Prelude.{◌≡◌, ◌≢◌, ℕ, zero, suc, ◌+◌, ◌≤◌, ◌<◌, Bool, true, false, cond, inl, inr, not, List, [], ◌∷◌, ◌++◌, length, length-append, take, map, filter, refl, sym, ◌∙◌, ap, subst, arith, nat_cmp, get_or, Box, Result, is_some, Some, None, Ok, Err, nat_eq, nat_lt, option_map, insert, remove, ◌==◌, slice_get, Slab, Updates, with_value, get, ContainsKey, IsBinarySearchResult, lookup, set_value, remove_entry, is_at, insert_entry, option_map_or, nat_tests, length-map, map_push, take_at, append_cancel_left, searched, slice_get-map, slice_get_read, IsIn, IsRising, length-kept, of_filter, App, AppTable, change_app, add_app, new_app, rising_kept, Account, HeldApp, TakesRoom, remove_app, AreNumbered, AreIndexed, IsLeft, UsesRoom, account_of, is_waiting, waiting_of, entries_at, held_at, nobody, AreAllKept, AreKept}
 use Rattle.std.proofs.Math.ListN.{get_or-map as read_mapped}
 use Rattle.std.specs.Bool.{beq}
 use Rattle.std.specs.Ordering.{ordering_index}
@@ -11,6 +11,7 @@ use Rattle.std.proofs.lemmas.List.Elements.{filter-append}
 use Rattle.cap_asks.specs.Apps.{with_entry, without_entry}
 use Rattle.std.specs.Box.{with_value as with_boxed}
 use Rattle.cap_asks.proofs.Entries.{apps_of, accounts_of, account_there, is_number, by_number, none_changed, one_changed, one_uses, still_numbered, still_without, numbered_front, numbered_push, table_without, account_left}
+use Rattle.cap_asks.proofs.KeptAsks.{kept_before, kept_changed, kept_left, kept_more}
 use Rattle.cap_asks.proofs.Slots.{written, updated, looked_at, is_held, held_set, held_without, held_push, held_back, entries_without, slot_taken, opened}
 
 abbrev pub number_of : ℕ × ℕ → ℕ
@@ -252,10 +253,10 @@ pub record IsChanged (n : ℕ) (change : App → App) (a g e slot : ℕ) (now : 
   pub put : beq waits waited ≡ false → {ws2 : List (ℕ × ℕ)} {room2 : ℕ} → ws2 ≡ cond waits (with_entry n slot ws) (without_entry n ws) → room ≤ room2 → AreIndexed held' index next ws2 room2
   pub stays : waits ≡ waited → AreIndexed held' index next ws room
 
-pub changed : {A : Type 0} (n : ℕ) (change : App → App) (slot : ℕ) (b : Box HeldApp A) (old now : HeldApp) (apps : Slab (Box HeldApp A)) (index : List (ℕ × ℕ)) {a g e next : ℕ} {ws : List (ℕ × ℕ)} {room : ℕ} {waited waits : Bool}
+pub changed : {A : Type 0} (n : ℕ) (change : App → App) (keeps : (app : App) → AreKept app.asks → AreKept (change app).asks) (slot : ℕ) (b : Box HeldApp A) (old now : HeldApp) (apps : Slab (Box HeldApp A)) (index : List (ℕ × ℕ)) {a g e next : ℕ} {ws : List (ℕ × ℕ)} {room : ℕ} {waited waits : Bool}
     → AreIndexed (held_at apps) index next ws room → Some slot ≡ lookup (is_at (nat_cmp n)) index → get apps slot ≡ Some b → old ≡ b.value → now.app ≡ change old.app → now.app.number ≡ old.app.number → TakesRoom a g e old.account now.account
     → waited ≡ is_waiting old.app → waits ≡ is_waiting now.app → IsChanged n change a g e slot now (held_at apps) (held_at (with_value apps slot (with_boxed b now))) index next ws room waited waits
-changed n change slot b old now apps index {a} {g} {e} {next} {ws} {room} {waited} {waits} h f there is_old is number takes did does =
+changed n change keeps slot b old now apps index {a} {g} {e} {next} {ws} {room} {waited} {waits} h f there is_old is number takes did does =
     let held = held_at apps in
     let held' = held_at (with_value apps slot (with_boxed b now)) in
     let es = entries_at held index in
@@ -264,24 +265,27 @@ changed n change slot b old now apps index {a} {g} {e} {next} {ws} {room} {waite
     let new_is : entries_at held' index ≡ set_value (nat_eq n) es now = held_set held held' slot n next index now write h.numbered f in
     let numbered : AreNumbered 1 (entries_at held' index) next = rw new_is (still_numbered 1 n next es old now h.numbered found number) in
     let few = h.few in
+    let table = ap apps_of new_is ∙ one_changed 1 n next es old now change h.numbered found is in
+    let kept = subst AreAllKept (sym table) (kept_changed n change keeps (apps_of es) h.kept) in
     let waited_is : waited ≡ is_waiting (held slot).app = did ∙ ap (λ (x : HeldApp). is_waiting x.app) (is_old ∙ sym (ap (λ o. option_map_or (λ c. c.value) o nobody) there)) in
     let waits_is : waits ≡ is_waiting (held' slot).app = does ∙ ap (λ (x : HeldApp). is_waiting x.app) (sym write.here) in
     let begin : waited ≡ false → waits ≡ true → filter (waits_in held') index ≡ with_entry n slot ws =
     λ off on. begins held held' n slot next index h.numbered f write.others (sym waited_is ∙ off) (sym waits_is ∙ on) ∙ ap (with_entry n slot) (sym h.waiting) in
     record {
       entries = new_is;
-      table = ap (λ xs. record { active = xs; next = next }) (ap apps_of new_is ∙ one_changed 1 n next es old now change h.numbered found is);
+      table = ap (λ xs. record { active = xs; next = next }) table;
       accounts = rw new_is (one_uses n a g e es old now found takes);
       fits = λ other on. let more = ap length (begin (began waits waited other on) on) ∙ length-with n slot ws in let all = length-kept (waits_in held') index in omega (arith, more, all, few);
       put = λ other {ws2} {room2} is r. record {
         numbered = numbered;
+        kept = kept;
         waiting =
             is
             ∙ either waits (λ w. cond w (with_entry n slot ws) (without_entry n ws) ≡ filter (waits_in held') index) (λ on. sym (begin (began waits waited other on) on))
             (λ off. ap (without_entry n) h.waiting ∙ sym (ceases held held' n slot next index h.numbered f write.others (sym waits_is ∙ off)));
         few = omega (arith, few, r);
       };
-      stays = λ same. record { numbered = numbered; waiting = h.waiting ∙ sym (goes_on held held' n slot next index h.numbered f write.others (sym waits_is ∙ same ∙ waited_is)); few = few };
+      stays = λ same. record { numbered = numbered; kept = kept; waiting = h.waiting ∙ sym (goes_on held held' n slot next index h.numbered f write.others (sym waits_is ∙ same ∙ waited_is)); few = few };
     }
 
 -- where there is none of the number, nothing changes
@@ -331,6 +335,7 @@ taken_out n slot apps apps' index left {next} {ws} {room} h is none others e u l
       w,
       λ ws2 room2 now r. record {
         numbered = w.numbered;
+        kept = subst AreAllKept (sym (ap (λ (t : AppTable). t.active) w.table)) (kept_left (λ (app : App). not (app.number == n)) (apps_of (entries_at held index)) h.kept);
         waiting = now ∙ ap (without_entry n) h.waiting ∙ sym (ap (filter (waits_in held')) left_is ∙ leaves held held' n slot next index h.numbered e (updated u).others);
         few = omega (arith, few, r, less);
       },
@@ -370,6 +375,7 @@ taken_back q apps apps' index left {next} {ws} {room} h last e u =
     record {
       whole = λ {now = ws2} {n_room = room2} now r. record {
         numbered = front.0;
+        kept = kept_before (apps_of new) p.1.app (subst AreAllKept (ap apps_of is ∙ map_push (λ (x : ℕ × HeldApp). x.1.app) new p) h.kept);
         waiting = now ∙ ap (without_entry q.0) h.waiting ∙ sym (ap (filter (waits_in held')) (sym left_is) ∙ leaves held held' q.0 q.1 next index h.numbered (sym e) (updated u).others);
         few = omega (arith, few, more, r);
       };
@@ -385,7 +391,7 @@ taken_back q apps apps' index left {next} {ws} {room} h last e u =
 pub grown : {held held' : ℕ → HeldApp} {index : List (ℕ × ℕ)} {next : ℕ} {ws now : List (ℕ × ℕ)} {room n_room : ℕ} → AreIndexed held index next ws room → held' ≡ held → now ≡ ws → room ≤ n_room → AreIndexed held' index next now n_room
 grown {held} {held'} {index} {next} {ws} {now} {room} {n_room} h same is r =
     let few = h.few in
-    subst (λ (f : ℕ → HeldApp). AreIndexed f index next now n_room) (sym same) (record { numbered = h.numbered; waiting = is ∙ h.waiting; few = omega (arith, few, r) })
+    subst (λ (f : ℕ → HeldApp). AreIndexed f index next now n_room) (sym same) (record { numbered = h.numbered; kept = h.kept; waiting = is ∙ h.waiting; few = omega (arith, few, r) })
 
 -- one more, that does not wait yet
 pub record IsEnteredAs (x : HeldApp) (held held' : ℕ → HeldApp) (index more : List (ℕ × ℕ)) (next : ℕ) (ws : List (ℕ × ℕ)) : Type 0 where
@@ -393,8 +399,8 @@ pub record IsEnteredAs (x : HeldApp) (held held' : ℕ → HeldApp) (index more 
   pub whole : {room : ℕ} → length index + 1 ≤ room → AreIndexed held' more (next + 1) ws room
 
 pub entered : {A : Type 0} (slot : ℕ) (b : Box HeldApp A) (x : HeldApp) (apps apps' : Slab (Box HeldApp A)) (index more : List (ℕ × ℕ)) {next : ℕ} {ws : List (ℕ × ℕ)} {room : ℕ} → AreIndexed (held_at apps) index next ws room
-    → more ≡ insert_entry nat_cmp index next slot → Updates apps apps' slot (Some b) → get apps slot ≡ None → b.value ≡ x → x.app.number ≡ next → is_waiting x.app ≡ false → IsEnteredAs x (held_at apps) (held_at apps') index more next ws
-entered {A} slot b x apps apps' index more {next} {ws} {room} h last u vacant value number rests =
+    → more ≡ insert_entry nat_cmp index next slot → Updates apps apps' slot (Some b) → get apps slot ≡ None → b.value ≡ x → x.app.number ≡ next → AreKept x.app.asks → is_waiting x.app ≡ false → IsEnteredAs x (held_at apps) (held_at apps') index more next ws
+entered {A} slot b x apps apps' index more {next} {ws} {room} h last u vacant value number rising rests =
     let held = held_at apps in
     let held' = held_at apps' in
     let none = ap (λ o. option_map_or (λ (c : Box HeldApp A). c.value) o nobody) vacant in
@@ -413,6 +419,7 @@ entered {A} slot b x apps apps' index more {next} {ws} {room} h last u vacant va
       entries = is;
       whole = λ {room = room2} r. record {
         numbered = rw is (numbered_push 1 next (entries_at held index) x h.numbered number);
+        kept = subst AreAllKept (sym (ap apps_of is ∙ map_push (λ (y : ℕ × HeldApp). y.1.app) (entries_at held index) (next, x))) (kept_more (apps_of (entries_at held index)) x.app h.kept rising);
         waiting =
             h.waiting
             ∙ sym (ap (filter (waits_in held')) pushed.0 ∙ filter-append (waits_in held') index ((next, slot) ∷ [])

@@ -1,11 +1,12 @@
 -- The table of active applications, with the account of each.
 use Rattle.std.specs.Prelude.{Box, ◌≡◌, ℕ, ◌+◌, ◌≤◌, Bool, ◌&&◌, not, nat_lt, filter, length, map, List, [], ◌∷◌, ◌++◌, Option, Some, None, option_and_then, false, nat_eq, ◌==◌, if◌then◌else◌, option_map}
 use Rattle.std.specs.Option.{option_map_or}
+use Rattle.std.specs.List.{AllByRecursion}
 use Rattle.std.specs.Map.{lookup}
 use Rattle.slab.specs.Slab.{Slab, get}
 use Rattle.cap_model.specs.Flat.{AppTable, app_in, App}
 use Rattle.cap_model.specs.News.{AllocateReply, Grant}
-use Rattle.cap_asks.specs.Accounts.{Account, HeldApp}
+use Rattle.cap_asks.specs.Accounts.{Account, AreKept, HeldApp}
 use Rattle.cap_model.specs.Reporting.{reported_of}
 use Rattle.cap_model.specs.declared.ask.Key.{Key}
 use Rattle.cap_model.specs.declared.news.End.{End}
@@ -133,9 +134,14 @@ held_at apps slot = option_map_or (λ b. b.value) (get apps slot) nobody
 abbrev pub entries_at : (ℕ → HeldApp) → List (ℕ × ℕ) → List (ℕ × HeldApp)
 entries_at held index = map (λ e. (e.0, held e.1)) index
 
--- an index of applications in slots under their numbers, which rise from 1 and are below the next; its entries of those that wait, in
--- memory that has room for all
+-- the asks of each application are in order of key, each for at least one container
+abbrev pub AreAllKept : List App → Type 0
+AreAllKept apps = AllByRecursion (λ app. AreKept app.asks) apps
+
+-- an index of applications in slots under their numbers, which rise from 1 and are below the next, with their asks in order; its entries of
+-- those that wait, in memory that has room for all
 pub record AreIndexed (held : ℕ → HeldApp) (index : List (ℕ × ℕ)) (next : ℕ) (waiters : List (ℕ × ℕ)) (room : ℕ) : Type 0 where
   pub numbered : AreNumbered 1 (entries_at held index) next
+  pub kept : AreAllKept (map (λ e. e.1.app) (entries_at held index))
   pub waiting : waiters ≡ filter (λ e. is_waiting (held e.1).app) index
   pub few : length index ≤ room

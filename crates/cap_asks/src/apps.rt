@@ -9,7 +9,7 @@ ghost use Rattle.cap_base.specs.Members.{IsRising};
 ghost use Rattle.cap_model.specs.Submit.{add_app};
 ghost use Rattle.cap_model.specs.FinishMaster.{remove_app};
 ghost use Rattle.cap_model.specs.Flat.{AppTable, change_app, no_apps, app_in};
-ghost use Rattle.cap_asks.specs.Accounts.{Account};
+ghost use Rattle.cap_asks.specs.Accounts.{Account, AreKept};
 ghost use Rattle.cap_asks.specs.Changes.{CanChange, Uses, changed_by, used_by};
 ghost use Rattle.cap_asks.specs.Apps.{is_waiting, waiting_of, with_entry, without_entry, IsLeft, account_of, ask_room, live_of, UsesRoom, HasRooms, kept_of, KeepsNumbers, Enters, with_ask_put, with_one_less, with_waiting_grant, with_waiting_end, after_next_reply};
 
@@ -122,6 +122,13 @@ impl<const K: usize> Apps<K> {
     /// The numbers rise from 1, and are below the next. This does nothing: it is there for what its clause says.
     pub fn numbers_rise(&self)
         ensures { IsRising 1 (map (λ app. app.number) self.now.table.active) self.now.table.next }
+    {
+        let _ = &self.index;
+    }
+
+    /// The asks of each are in order of key, each for at least one container. This does nothing: it is there for what its clause says.
+    pub fn asks_rise(&self)
+        ensures { All (λ app. AreKept app.asks) self.now.table.active }
     {
         let _ = &self.index;
     }

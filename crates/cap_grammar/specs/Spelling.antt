@@ -1,4 +1,5 @@
 -- The one spelling of each request and each reply.
+use Rattle.std.specs.Bool.{◌==◌}
 use Rattle.std.specs.Prelude.{◌≡◌, ℕ, ◌<◌, ◌≤◌, ◌^◌, ◌⊎◌, List, [], ◌∷◌, ◌++◌, length, take, Bool, true, Option, IfSome, is_some, unwrap_or, if◌then◌else◌}
 use Rattle.std.specs.List.{flat_map, AllByRecursion}
 use Rattle.std.specs.Int.{Width, w16, w32, w64, to_be_bytes}
@@ -261,6 +262,22 @@ FitsReply Reply.Refresh = Unit {0}
 -- the number of a kind
 abbrev pub IsKind : ℕ → Type 0
 IsKind kind = (1 ≤ kind) × (kind ≤ 11)
+
+-- the room that the longest reply takes, and the longest that is none to an Allocate, with the four bytes of a frame's length
+abbrev pub long_room : ℕ
+long_room = 8083
+
+abbrev pub short_room : ℕ
+short_room = 90
+
+-- the room that a reply to a request of this kind takes at most
+abbrev pub room_of : ℕ → ℕ
+room_of kind = if kind == 3 then long_room else short_room
+
+-- the room that a reply takes at most, of which it is known whether it answers an Allocate
+abbrev pub room_for : {K : ℕ} → Reply K → ℕ
+room_for (Reply.Allocate reply) = long_room
+room_for reply = short_room
 
 -- the bytes spell the reply to a request of this head and kind
 pub record IsReply {K : ℕ} (bytes : List ℕ) (head : Head) (kind : ℕ) (reply : Reply K) : Type 0 where

@@ -22,7 +22,7 @@ pub use crate::fault::MessageFault;
 pub use crate::head::Head;
 pub use crate::laws::{replies_have_one_spelling, requests_have_one_spelling};
 pub use crate::output::{FAULT_ROOM, Out, REPLY_ROOM, REQUEST_ROOM};
-pub use crate::replies::{BAD_LENGTH, BAD_MESSAGE, write_fault, write_reply};
+pub use crate::replies::{BAD_LENGTH, BAD_MESSAGE, reply_room, write_fault, write_reply};
 pub use crate::requests::{kind, read_request};
 pub use crate::spellable::has_spelling;
 pub use crate::writing::write_request;

@@ -10,7 +10,7 @@ ghost use Rattle.cap_base.specs.Limits.{asks_max, numbers_max, resources, text_m
 use crate::fault::MessageFault;
 use crate::fields::{amounts_of, text_of, u16_of, u32_of, u64_of};
 use crate::texts::place_from;
-use cap_base::RESOURCES;
+use cap_base::{NoMemory, RESOURCES};
 use cap_model::{Ask, Asks, Key, List, Numbers, SettingsText};
 use cap_vector::Resource;
 use std::alloc::Global;
@@ -47,7 +47,7 @@ pub(crate) fn numbers_of(alloc: Global, bytes: &[u8]) -> Result<(Numbers, &[u8])
         return Err(MessageFault::Bad);
     };
     if length == 0 {
-        return Ok((List::of(Vec::new(alloc)), rest));
+        return Ok((List::empty(), rest));
     }
     let Ok(mut numbers) = Vec::with_capacity(alloc, length as usize) else {
         return Err(MessageFault::NoMemory);
@@ -61,7 +61,10 @@ pub(crate) fn numbers_of(alloc: Global, bytes: &[u8]) -> Result<(Numbers, &[u8])
         };
         rest = after;
     }
-    Ok((List::of(numbers), rest))
+    match List::of(alloc, numbers) {
+        Ok(numbers) => Ok((numbers, rest)),
+        Err(NoMemory) => Err(MessageFault::NoMemory),
+    }
 }
 
 // Asks.
@@ -78,7 +81,7 @@ pub(crate) fn asks_of(
         return Err(MessageFault::Bad);
     };
     if length == 0 {
-        return Ok((List::of(Vec::new(alloc)), rest));
+        return Ok((List::empty(), rest));
     }
     let Ok(mut asks) = Vec::with_capacity(alloc, length as usize) else {
         return Err(MessageFault::NoMemory);
@@ -92,7 +95,10 @@ pub(crate) fn asks_of(
         };
         rest = read.1;
     }
-    Ok((List::of(asks), rest))
+    match List::of(alloc, asks) {
+        Ok(asks) => Ok((asks, rest)),
+        Err(NoMemory) => Err(MessageFault::NoMemory),
+    }
 }
 
 // How many bytes of property lines there are, at most so many.
@@ -121,14 +127,17 @@ pub(crate) fn lines_of(alloc: Global, bytes: &[u8]) -> Result<(SettingsText, &[u
         return Err(MessageFault::Bad);
     }
     let (lines, rest) = rest.split_at(size);
-    let mut text = Vec::new(alloc);
     if size == 0 {
-        return Ok((List::of(text), rest));
+        return Ok((List::empty(), rest));
     }
+    let mut text = Vec::new(alloc);
     let Ok(()) = text.extend_from_slice(lines) else {
         return Err(MessageFault::NoMemory);
     };
-    Ok((List::of(text), rest))
+    match List::of(alloc, text) {
+        Ok(text) => Ok((text, rest)),
+        Err(NoMemory) => Err(MessageFault::NoMemory),
+    }
 }
 
 // One ask: priority, request id, count, resource and place.

@@ -14,8 +14,11 @@ use cap_vector::Amounts;
 /// What replies and requests are written into.
 pub type Out = BytesMut;
 
-/// The room that the longest reply takes, in bytes, with the four bytes of a frame's length before it.
+/// The room that the longest reply takes, in bytes, with the four bytes of a frame's length before it. It is one to an Allocate.
 pub const REPLY_ROOM: usize = 8083;
+
+/// The room that the longest reply takes that is none to an Allocate.
+pub(crate) const SHORT_ROOM: usize = 90;
 
 /// The room that the reply to a payload or a frame that is no request takes, in bytes.
 pub const FAULT_ROOM: usize = 7;
@@ -23,7 +26,9 @@ pub const FAULT_ROOM: usize = 7;
 /// The room that the longest request takes, in bytes: as many as a frame's payload has.
 pub const REQUEST_ROOM: usize = 65_536;
 
-const _: () = prove!(REPLY_ROOM == 8_083 && FAULT_ROOM == 7 && REQUEST_ROOM == 65_536);
+const _: () = prove!(REPLY_ROOM == 8_083 && SHORT_ROOM == 90);
+
+const _: () = prove!(FAULT_ROOM == 7 && REQUEST_ROOM == 65_536);
 
 // The amounts of a vector that a version spells: memory and vcores, and in version 2 GPUs.
 #[tactic(auto, unfolding(crate::specs::Spelling::resource))]

@@ -1,7 +1,7 @@
 //! Replies of each kind written as bytes (`write_reply`, `write_fault`), and read from them by kind and status.
 ghost use Rattle.std.specs.Prelude.{◌≡◌, ◌≤◌, ◌<◌, ◌+◌, ◌++◌, ◌∷◌, ◌^◌, length, true, IfOk};
 ghost use Rattle.std.specs.Int.{w32, w64, to_be_bytes};
-ghost use Rattle.cap_grammar.specs.Spelling.{IsKind, IsOfKind, FitsRefusal, FitsReply, IsReply, refusal_bytes, reply_bytes, reply_body, fault_reply};
+ghost use Rattle.cap_grammar.specs.Spelling.{IsKind, IsOfKind, FitsRefusal, FitsReply, IsReply, refusal_bytes, reply_bytes, reply_body, fault_reply, room_of, room_for};
 ghost use Rattle.cap_grammar.specs.Answers.{IsReadAs};
 ghost use Rattle.cap_grammar.specs.Versions.{is_version};
 ghost use Rattle.cap_base.specs.Limits.{resources};
@@ -10,7 +10,7 @@ use crate::fault::MessageFault;
 use crate::fields::{numbers_in, u32_of, u64_of, vector_of};
 use crate::head::{Head, VERSION_1};
 use crate::news::{allocated, beaten, put_allocated, put_beat};
-use crate::output::{FAULT_ROOM, Out, REPLY_ROOM, put_amounts};
+use crate::output::{FAULT_ROOM, Out, REPLY_ROOM, SHORT_ROOM, put_amounts};
 use crate::reports::{cluster_shown, put_cluster_report, put_queue_report, queue_shown};
 use crate::requests::{
     ALLOCATE, CLUSTER_INFO, FINISH_MASTER, HEARTBEAT, LAST_KIND, NODE_GONE, QUEUE_INFO, REFRESH,
@@ -39,10 +39,10 @@ pub(crate) fn put_head(version: u8, kind: u8, call_id: u32, out: &mut Out)
 
 // The status and what follows it, after the 10 bytes of a frame's length and a reply's head.
 fn put_reply_body(version: u8, reply: &ReplyView<'_, RESOURCES>, out: &mut Out)
-    requires { REPLY_ROOM ≤ out.old.spare + 10 }
+    requires { room_for reply.now ≤ out.old.spare + 10 }
     ensures appends { out.new.items ≡ out.old.items ++ reply_body version reply.now }
     ensures spare { out.new.spare + length (reply_body version reply.now) ≡ out.old.spare }
-    ensures room { 10 + length (reply_body version reply.now) ≤ REPLY_ROOM }
+    ensures room { 10 + length (reply_body version reply.now) ≤ room_for reply.now }
     ensures fits { FitsReply reply.now }
 {
     match reply {
@@ -111,19 +111,31 @@ fn put_count(count: u32, out: &mut Out)
     out.extend_reserved(&count.to_be_bytes());
 }
 
+/// The room that a reply to a request of this kind takes at most, in bytes, with the four bytes of a frame's length before it:
+/// `REPLY_ROOM` for an Allocate, and 90 for each other kind.
+pub fn reply_room(kind: u8) -> usize
+    ensures { result ≡ room_of kind }
+{
+    if kind == ALLOCATE {
+        REPLY_ROOM
+    } else {
+        SHORT_ROOM
+    }
+}
+
 /// Appends the one spelling of a reply to a request of this head and kind: the version is 1 or 2, the kind is one that `kind`
-/// gives, the reply is a refusal or one of the kind, and `REPLY_ROOM` bytes of `out` are free. Of each vector version 1 spells
-/// memory and vcores alone, version 2 GPUs too. It takes no memory and cannot fail; what `out` held stays.
+/// gives, the reply is a refusal or one of the kind, and as many bytes of `out` are free as `reply_room` says of the kind. Of each
+/// vector version 1 spells memory and vcores alone, version 2 GPUs too. It takes no memory and cannot fail; what `out` held stays.
 pub fn write_reply(head: Head, kind: u8, reply: &ReplyView<'_, RESOURCES>, out: &mut Out)
     requires version { is_version resources head.version ≡ true }
     requires table { IsKind kind }
     requires kind { IsOfKind kind reply.now }
-    requires room { REPLY_ROOM ≤ out.old.spare }
+    requires room { room_of kind ≤ out.old.spare }
     ensures appends { out.new.items ≡ out.old.items ++ reply_bytes head kind reply.now }
     ensures spare { out.new.spare + length (reply_bytes head kind reply.now) ≡ out.old.spare }
     ensures spells { IsReply (reply_bytes head kind reply.now) head kind reply.now }
     ensures some { 0 < length (reply_bytes head kind reply.now) }
-    ensures room { 4 + length (reply_bytes head kind reply.now) ≤ REPLY_ROOM }
+    ensures room { 4 + length (reply_bytes head kind reply.now) ≤ room_of kind }
 {
     put_head(head.version, kind, head.call_id, out);
     put_reply_body(head.version, reply, out);

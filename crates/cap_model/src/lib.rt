@@ -35,7 +35,7 @@ pub use reply::{OwnedReply, Reply, ReplyView, ReplyWith};
 pub use report::{ClusterReport, QueueReport};
 pub use request::Request;
 pub use response_ids::{is_bad, next_response, repeats};
-pub use stored::{RequestRoom, StoredRequest, request_room};
+pub use stored::StoredRequest;
 
 /// Node, application and container numbers begin at 1 and stay below this.
 pub const NUMBER_END: u64 = 1 << 62;

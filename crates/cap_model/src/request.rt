@@ -63,8 +63,8 @@ pub enum Request<const K: usize> {
 }
 
 impl<const K: usize> Request<K> {
-    /// The same request, with lists of its own. If an allocation fails there is none.
-    pub fn copy(&self, alloc: Global) -> Result<Request<K>, NoMemory>
+    /// The same request, which shares its lists with this one. If there is no memory for it there is none.
+    pub fn copy(&self, _alloc: Global) -> Result<Request<K>, NoMemory>
         ensures { IfOk result (λ copy. copy ≡ self.now) }
     {
         Ok(match self {
@@ -81,8 +81,8 @@ impl<const K: usize> Request<K> {
             } => Request::Allocate {
                 app: *app,
                 response: *response,
-                asks: asks.copy(alloc)?,
-                releases: releases.copy(alloc)?,
+                asks: asks.share()?,
+                releases: releases.share()?,
             },
             Request::FinishMaster { app } => Request::FinishMaster { app: *app },
             Request::RegisterNode { host, rack, total } => Request::RegisterNode {
@@ -97,7 +97,7 @@ impl<const K: usize> Request<K> {
             } => Request::Heartbeat {
                 node: *node,
                 response: *response,
-                ended: ended.copy(alloc)?,
+                ended: ended.share()?,
             },
             Request::NodeGone { node } => Request::NodeGone { node: *node },
             Request::QueueInfo { path } => Request::QueueInfo { path: *path },
@@ -107,7 +107,7 @@ impl<const K: usize> Request<K> {
             },
             Request::ClusterInfo => Request::ClusterInfo,
             Request::Refresh { text } => Request::Refresh {
-                text: text.copy(alloc)?,
+                text: text.share()?,
             },
         })
     }

@@ -1,14 +1,14 @@
-//! A request as events and journals keep it: a short one in place, any other behind a pointer (`StoredRequest`).
+//! A request as events and journals keep it: a short one in place, any other behind a pointer that all its owners share
+//! (`StoredRequest`).
 ghost use Rattle.std.specs.Prelude.{◌≡◌, ◌≤◌, IfOk};
 ghost use Rattle.cap_base.specs.Limits.{resources_max};
-ghost use Rattle.cap_model.specs.Stored.{HasRoomIfLong};
 
-use crate::list::{Asks, List, Numbers};
+use crate::list::{Asks, Numbers};
 use crate::request::Request;
 use cap_base::NoMemory;
 use std::alloc::Global;
 use std::marker::Model;
-use std::mem;
+use std::sync::Arc;
 
 /// How a request is kept: one of the kinds that are named here in place, and any other, as those with texts, which are long,
 /// behind a pointer.
@@ -35,10 +35,10 @@ pub enum RequestForm<const K: usize> {
         node: u64,
     },
     ClusterInfo,
-    Boxed(Box<Request<K>>),
+    Long(Arc<Request<K>>),
 }
 
-/// A request, in at most 80 bytes and what its lists and texts take. Contracts see the request.
+/// A request, in at most 40 bytes and what its lists and texts take, which its owners share. Contracts see the request.
 pub struct StoredRequest<const K: usize> {
     form: RequestForm<K>,
 }
@@ -64,10 +64,10 @@ impl<const K: usize> Model for StoredRequest<K> {
 }
 
 impl<const K: usize> StoredRequest<K> {
-    /// The same request, in memory of its own. If an allocation fails there is none.
+    /// The same request, which shares its lists with this one. If there is no memory for it there is none.
     pub fn of(alloc: Global, request: &Request<K>) -> Result<StoredRequest<K>, NoMemory>
         requires { K ≤ resources_max }
-        ensures { IfOk result (λ copy. copy ≡ request.now) }
+        ensures { IfOk result (λ stored. stored ≡ request.now) }
     {
         let form = match request {
             Request::RegisterMaster { app } => RequestForm::RegisterMaster { app: *app },
@@ -79,8 +79,8 @@ impl<const K: usize> StoredRequest<K> {
             } => RequestForm::Allocate {
                 app: *app,
                 response: *response,
-                asks: asks.copy(alloc)?,
-                releases: releases.copy(alloc)?,
+                asks: asks.share()?,
+                releases: releases.share()?,
             },
             Request::FinishMaster { app } => RequestForm::FinishMaster { app: *app },
             Request::Heartbeat {
@@ -90,35 +90,22 @@ impl<const K: usize> StoredRequest<K> {
             } => RequestForm::Heartbeat {
                 node: *node,
                 response: *response,
-                ended: ended.copy(alloc)?,
+                ended: ended.share()?,
             },
             Request::NodeGone { node } => RequestForm::NodeGone { node: *node },
             Request::ClusterInfo => RequestForm::ClusterInfo,
-            _ => RequestForm::Boxed(boxed(alloc, request.copy(alloc)?)?),
+            _ => RequestForm::Long(shared(alloc, request.copy(alloc)?)?),
         };
         Ok(StoredRequest { form })
     }
 
-    /// The same request: its lists are taken out of it, and one that stands behind a pointer is moved there whole. It takes no memory.
-    #[inline(always)]
-    pub fn moved(
-        alloc: Global,
-        request: &mut Request<K>,
-        room: Option<RequestRoom<K>>,
-    ) -> StoredRequest<K>
-        requires room { HasRoomIfLong request.old room }
-        requires resources { K ≤ resources_max }
-        ensures { result ≡ request.old }
+    /// The same request, shared with this one: it takes no memory. If it has too many owners there is none.
+    pub fn share(&self) -> Result<StoredRequest<K>, NoMemory>
+        ensures { IfOk result (λ other. other ≡ self.now) }
     {
-        if let Some(RequestRoom { mut place }) = room {
-            *place = mem::replace(request, Request::ClusterInfo);
-            return StoredRequest {
-                form: RequestForm::Boxed(place),
-            };
-        }
-        let form = match request {
-            Request::RegisterMaster { app } => RequestForm::RegisterMaster { app: *app },
-            Request::Allocate {
+        let form = match &self.form {
+            RequestForm::RegisterMaster { app } => RequestForm::RegisterMaster { app: *app },
+            RequestForm::Allocate {
                 app,
                 response,
                 asks,
@@ -126,27 +113,30 @@ impl<const K: usize> StoredRequest<K> {
             } => RequestForm::Allocate {
                 app: *app,
                 response: *response,
-                asks: mem::replace(asks, List::of(Vec::new(alloc))),
-                releases: mem::replace(releases, List::of(Vec::new(alloc))),
+                asks: asks.share()?,
+                releases: releases.share()?,
             },
-            Request::FinishMaster { app } => RequestForm::FinishMaster { app: *app },
-            Request::Heartbeat {
+            RequestForm::FinishMaster { app } => RequestForm::FinishMaster { app: *app },
+            RequestForm::Heartbeat {
                 node,
                 response,
                 ended,
             } => RequestForm::Heartbeat {
                 node: *node,
                 response: *response,
-                ended: mem::replace(ended, List::of(Vec::new(alloc))),
+                ended: ended.share()?,
             },
-            Request::NodeGone { node } => RequestForm::NodeGone { node: *node },
-            Request::ClusterInfo => RequestForm::ClusterInfo,
-            _ => unreachable!(),
+            RequestForm::NodeGone { node } => RequestForm::NodeGone { node: *node },
+            RequestForm::ClusterInfo => RequestForm::ClusterInfo,
+            RequestForm::Long(request) => match Arc::try_clone(request) {
+                Ok(request) => RequestForm::Long(request),
+                Err(_) => return Err(NoMemory),
+            },
         };
-        StoredRequest { form }
+        Ok(StoredRequest { form })
     }
 
-    /// The request, in memory of its own. If an allocation fails there is none.
+    /// The request, which shares its lists with this one. If there is no memory for it there is none.
     pub fn request(&self, alloc: Global) -> Result<Request<K>, NoMemory>
         ensures { IfOk result (λ request. request ≡ self.now) }
     {
@@ -160,8 +150,8 @@ impl<const K: usize> StoredRequest<K> {
             } => Ok(Request::Allocate {
                 app: *app,
                 response: *response,
-                asks: asks.copy(alloc)?,
-                releases: releases.copy(alloc)?,
+                asks: asks.share()?,
+                releases: releases.share()?,
             }),
             RequestForm::FinishMaster { app } => Ok(Request::FinishMaster { app: *app }),
             RequestForm::Heartbeat {
@@ -171,49 +161,22 @@ impl<const K: usize> StoredRequest<K> {
             } => Ok(Request::Heartbeat {
                 node: *node,
                 response: *response,
-                ended: ended.copy(alloc)?,
+                ended: ended.share()?,
             }),
             RequestForm::NodeGone { node } => Ok(Request::NodeGone { node: *node }),
             RequestForm::ClusterInfo => Ok(Request::ClusterInfo),
-            RequestForm::Boxed(request) => request.copy(alloc),
+            RequestForm::Long(request) => request.copy(alloc),
         }
     }
 }
 
-/// Room for a request behind a pointer.
-#[derive(Drop)]
-pub struct RequestRoom<const K: usize> {
-    place: Box<Request<K>>,
-}
-
-/// Room for the request behind a pointer, unless it is kept in place. If an allocation fails there is none.
-pub fn request_room<const K: usize>(
-    alloc: Global,
-    request: &Request<K>,
-) -> Result<Option<RequestRoom<K>>, NoMemory>
-    requires { K ≤ resources_max }
-    ensures { IfOk result (HasRoomIfLong request.now) }
-{
-    match request {
-        Request::RegisterMaster { .. }
-        | Request::Allocate { .. }
-        | Request::FinishMaster { .. }
-        | Request::Heartbeat { .. }
-        | Request::NodeGone { .. }
-        | Request::ClusterInfo => Ok(None),
-        _ => Ok(Some(RequestRoom {
-            place: boxed(alloc, Request::ClusterInfo)?,
-        })),
-    }
-}
-
 /// The request behind a pointer. If an allocation fails there is none.
-fn boxed<const K: usize>(alloc: Global, request: Request<K>) -> Result<Box<Request<K>>, NoMemory>
+fn shared<const K: usize>(alloc: Global, request: Request<K>) -> Result<Arc<Request<K>>, NoMemory>
     requires { K ≤ resources_max }
-    ensures { IfOk result (λ boxed. boxed.value ≡ request.entry) }
+    ensures { IfOk result (λ shared. shared.value ≡ request.entry) }
 {
-    match Box::new(alloc, request) {
-        Ok(boxed) => Ok(boxed),
+    match Arc::new(alloc, request) {
+        Ok(shared) => Ok(shared),
         Err(_) => Err(NoMemory),
     }
 }

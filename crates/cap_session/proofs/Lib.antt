@@ -1,6 +1,7 @@
 mod Logs
 mod Prelude
 mod Reading
+mod Owing
 pub mod Answering
 mod SessionSteps
 pub mod Continuing

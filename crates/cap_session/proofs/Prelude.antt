@@ -24,9 +24,9 @@ pub use Rattle.cap_session.specs.Asked.{IsOpened, IsReadFrom, PayloadLog, ReadRe
 pub use Rattle.cap_session.specs.Counted.{StreamState, bytes_in, inner_of, sent_count, state_of}
 pub use Rattle.cap_session.specs.Kept.{AnswerLog, IsKept, IsRead, answered_in, calls_in, calls_of, opens_in, sent_in, state_inside}
 pub use Rattle.cap_session.specs.Reading.{AnswersAllBad, AnswersBad, EndsWith, Finds, ReadsAhead, ended_by}
+pub use Rattle.cap_session.specs.Rooms.{kind_room, open_room, read_room, rooms}
 pub use Rattle.cap_session.specs.Session.{AnswersBy, Continues, EndsNow, FeedGives, FollowsStream, HasAnswered, IsSession, MayAnswer, NextGives, OpenRequest, OpensNext, SessionState, SpellsAnswer, after_sent, all_answers, answer_bytes, bytes_unanswered, ended_after, open_payloads, open_requests, with_answer}
 pub use Rattle.cap_session.specs.declared.counted.Sent.{Sent}
-pub use Rattle.cap_session.specs.declared.find.TheConstants.{FRAME_ROOM}
 pub use Rattle.cap_session.specs.declared.session.Next.{Next}
 pub use Rattle.cap_session.specs.declared.session.Session.TheInside.{Inside}
 pub use Rattle.cap_session.specs.declared.session.SessionCause.{SessionCause}

@@ -1,9 +1,10 @@
 -- What each step of a session keeps.
-use Rattle.cap_session.proofs.Prelude.{◌≡◌, ℕ, ◌+◌, ◌-◌, ◌*◌, ◌≤◌, true, false, is_some, List, [], ◌∷◌, ◌++◌, Option, Some, None, option_to_list, Err, All, All-nil, All-head, All-tail, All-append, refl, ap, ap₂, sym, ◌∙◌, arith, subst, inr, append_assoc, append-nil, length, length-append, length-map, map-append, take, take-append_seam, drop, Filled, Log, resources, Request, Reply, frame_of, rest, fault, IsStream, History, after_gift, IsReading, IsAtFault, MessageFault, IsRequest, IsNoRequest, fault_reply, nothing, sent_count, Sent, ended_after, after_sent, SessionState, OpenRequest, open_payloads, open_requests, SpellsAnswer, MayAnswer, FollowsStream, IsSession, HasAnswered, EndsNow, NextGives, OpensNext, answer_bytes, with_answer, AnswersBy, AnswerLog, calls_in, answered_in, calls_of, opens_in, sent_in, state_inside, IsKept, IsRead, AnswersBad, AnswersAllBad, Finds, EndsWith, ended_by, ReadsAhead, ReadResult, PayloadLog, payloads_in, FRAME_ROOM, SessionCause, Next, Inside}
+use Rattle.cap_session.proofs.Prelude.{◌≡◌, ℕ, ◌+◌, ◌-◌, ◌≤◌, true, false, is_some, List, [], ◌∷◌, ◌++◌, Option, Some, None, option_to_list, Err, All, All-nil, All-head, All-tail, All-append, refl, ap, ap₂, sym, ◌∙◌, arith, subst, inr, append_assoc, append-nil, length, length-append, length-map, map-append, take, take-append_seam, drop, Filled, Log, resources, Request, Reply, frame_of, rest, fault, IsStream, History, after_gift, IsReading, IsAtFault, MessageFault, IsRequest, IsNoRequest, fault_reply, nothing, sent_count, Sent, ended_after, after_sent, SessionState, OpenRequest, open_payloads, open_requests, SpellsAnswer, MayAnswer, FollowsStream, IsSession, HasAnswered, EndsNow, NextGives, OpensNext, answer_bytes, with_answer, AnswersBy, AnswerLog, calls_in, answered_in, calls_of, opens_in, sent_in, state_inside, IsKept, IsRead, AnswersBad, AnswersAllBad, Finds, EndsWith, ended_by, ReadsAhead, ReadResult, PayloadLog, payloads_in, rooms, open_room, SessionCause, Next, Inside}
 use Rattle.cap_session.specs.declared.counted.Sent.TheVariants as sents
 use Rattle.cap_session.specs.declared.session.SessionCause.TheVariants as causes
 use Rattle.cap_session.specs.declared.session.Next.TheVariants as nexts
 use Rattle.cap_session.proofs.Answering.{answers_more, one_refused, answers_open, answered_open, answers_refused, answered_fault, answered_answer, answered_starved, answered_sent, reopened}
+use Rattle.cap_session.proofs.Owing.{rooms_first}
 use Rattle.cap_session.proofs.Logs.{answered_more, calls_more}
 
 -- ---- payloads that are no requests
@@ -113,7 +114,7 @@ given_then g h answered now payloads later more was is = more ∙ ap (λ (x : Li
 
 -- what is kept where some payloads were answered and then some others given, of which those of these requests are open
 found : (s t : Inside) (opens : List OpenRequest) (lost payloads : List (List ℕ)) → IsKept s → s.ended ≡ None → s.asked.items ≡ [] → t.asked.items ≡ opens → t.ahead.items ≡ [] → t.framer.given ≡ s.framer.given ++ (payloads ++ (open_payloads opens ++ lost)) → answered_in t.answered.items ≡ answered_in s.answered.items ++ payloads
-    → IsReading t.framer → (t.ended ≡ None → lost ≡ []) → FRAME_ROOM * length opens ≤ t.unsent.spare → HasAnswered (state_inside t) → (t.ended ≡ Some causes.BadLength → opens ≡ []) → IsKept t
+    → IsReading t.framer → (t.ended ≡ None → lost ≡ []) → rooms opens ≤ t.unsent.spare → HasAnswered (state_inside t) → (t.ended ≡ Some causes.BadLength → opens ≡ []) → IsKept t
 found s t opens lost payloads kept over none asked ahead given answered reading none_lost room answers none_open =
     let opens_is : opens_in t ≡ opens = opens_are t.asked.items opens [] t.ahead.items (asked ∙ sym (append-nil opens)) ahead in
     record {
@@ -126,7 +127,7 @@ found s t opens lost payloads kept over none asked ahead given answered reading 
           ∙ ap (λ (x : List OpenRequest). answered_in t.answered.items ++ (open_payloads x ++ lost)) (sym asked);
       reading = reading;
       none_lost = none_lost;
-      room = subst (λ (x : List OpenRequest). FRAME_ROOM * length x ≤ t.unsent.spare) (sym asked) room;
+      room = subst (λ (x : List OpenRequest). rooms x ≤ t.unsent.spare) (sym asked) room;
       answers = answers;
       none_open = λ bad. asked ∙ none_open bad;
     }
@@ -142,7 +143,7 @@ asks s t request kept over none (payloads, frames, o, step, given, reading, aske
     let answered = step.answered in
     let calls = step.calls in
     let still = e ∙ over in (
-      found s t (o ∷ []) [] payloads kept over none asked ahead given answered reading (λ _. refl) room
+      found s t (o ∷ []) [] payloads kept over none asked ahead given answered reading (λ _. refl) (omega (arith, rooms_first o [], room))
           (answered_open (state_inside t) still (answers_refused (state_inside s) (state_inside t) payloads frames (answers_open (state_inside s) over kept.answers) step.answers answered calls sent unsent)) (λ bad. absurd cc),
       (over, payloads, frames, o, step.answers, same, subst (λ (q : Request resources). IsRequest o.payload o.head q) same is, cc),
     )
@@ -251,7 +252,7 @@ was_open None is = refl
 was_open (Some cause) is = absurd cc
 
 -- more were read ahead
-pub reads : (s t : Inside) → IsKept s → s.ended ≡ None → ReadsAhead s.framer t.framer s.asked.items t.asked.items s.ahead.items t.ahead.items → IsReading t.framer → FRAME_ROOM * length t.asked.items ≤ t.unsent.spare → t.unsent.items ≡ s.unsent.items
+pub reads : (s t : Inside) → IsKept s → s.ended ≡ None → ReadsAhead s.framer t.framer s.asked.items t.asked.items s.ahead.items t.ahead.items → IsReading t.framer → rooms t.asked.items ≤ t.unsent.spare → t.unsent.items ≡ s.unsent.items
     → t.answered ≡ s.answered → t.ended ≡ s.ended → t.sent ≡ s.sent → IsKept t × (state_inside t ≡ state_inside s)
 reads s t kept over r reading room unsent a e g =
     let split : t.asked.items ≡ opens_in s ++ (kept.later ++ r.more) = r.asked ∙ ap (λ (x : List OpenRequest). x ++ r.more) kept.asked ∙ append_assoc (opens_in s) kept.later r.more in
@@ -304,7 +305,7 @@ opens_first s t o reply kept may was a =
     (first.1 ∙ ap (λ (x : List OpenRequest). o ∷ x) (sym opens), first.2 ∙ ap (λ (x : List OpenRequest). x ++ kept.later) (sym opens))
 
 pub answers_it : (s t : Inside) (o : OpenRequest) (reply : Reply resources) (opened : Log Filled ReadResult) (replies : Log (Reply resources) (Unit {0})) → IsKept s → MayAnswer (opens_in s) reply → s.asked.items ≡ o ∷ t.asked.items → payloads_in opened.items ≡ o.payload ∷ [] → calls_in opened.items ((reply, tt) ∷ []) ≡ record { request = o.request; reply = reply } ∷ []
-    → SpellsAnswer (o ∷ []) reply → t.ahead ≡ s.ahead → t.framer ≡ s.framer → t.ended ≡ s.ended → replies.items ≡ (reply, tt) ∷ [] → t.answered.items ≡ s.answered.items ++ (opened, replies) ∷ [] → t.sent ≡ s.sent → t.unsent.items ≡ s.unsent.items ++ frame_of (answer_bytes o reply) → s.unsent.spare ≤ t.unsent.spare + FRAME_ROOM
+    → SpellsAnswer (o ∷ []) reply → t.ahead ≡ s.ahead → t.framer ≡ s.framer → t.ended ≡ s.ended → replies.items ≡ (reply, tt) ∷ [] → t.answered.items ≡ s.answered.items ++ (opened, replies) ∷ [] → t.sent ≡ s.sent → t.unsent.items ≡ s.unsent.items ++ frame_of (answer_bytes o reply) → s.unsent.spare ≤ t.unsent.spare + open_room o
     → IsKept t × (state_inside t ≡ with_answer (state_inside s) (o ∷ opens_in t) reply)
 answers_it s t o reply opened replies kept may was payload call spells a f e r d g u room =
     let first = opens_first s t o reply kept may was a in
@@ -324,7 +325,7 @@ answers_it s t o reply opened replies kept may was payload call spells a f e r d
             ∙ sym (append_assoc (answered_in s.answered.items) (o.payload ∷ []) (open_payloads t.asked.items ++ kept.lost)) ∙ ap (λ (x : List (List ℕ)). x ++ (open_payloads t.asked.items ++ kept.lost)) (sym answered);
         reading = subst IsReading (sym f) kept.reading;
         none_lost = λ over. kept.none_lost (sym e ∙ over);
-        room = omega (arith, ap (λ (x : List OpenRequest). length x) was, kept.room, room);
+        room = omega (arith, ap rooms was, rooms_first o t.asked.items, kept.room, room);
         answers = subst (λ (x : Option SessionCause). AnswersBy x (state_inside t)) (sym e)
             (answered_answer s.ended (state_inside s) (state_inside t) o (opens_in t) reply (λ bad. some_asked s reply kept may (kept.none_open bad)) kept.answers spells now);
         none_open = λ bad. absurd (some_asked s reply kept may (kept.none_open (sym e ∙ bad)));
@@ -404,7 +405,7 @@ sends s unsent log ended sent kept left spare out is =
       given = kept.given;
       reading = kept.reading;
       none_lost = λ e. kept.none_lost (was_none s.ended sent (sym is ∙ e));
-      room = subst (λ (n : ℕ). FRAME_ROOM * length s.asked.items ≤ n) (sym spare) kept.room;
+      room = subst (λ (n : ℕ). rooms s.asked.items ≤ n) (sym spare) kept.room;
       answers = subst HasAnswered (sym now) (answered_sent (state_inside s) sent kept.answers);
       none_open = λ e. kept.none_open (was_bad s.ended sent (sym is ∙ e));
     }

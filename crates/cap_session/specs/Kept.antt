@@ -1,5 +1,5 @@
 -- What the parts of a session keep.
-use Rattle.std.specs.Prelude.{◌≡◌, ℕ, ◌-◌, ◌*◌, ◌≤◌, List, [], ◌∷◌, ◌++◌, length, Some, None, Ok, All, flat_map, take}
+use Rattle.std.specs.Prelude.{◌≡◌, ℕ, ◌-◌, ◌≤◌, List, [], ◌∷◌, ◌++◌, length, Some, None, Ok, All, flat_map, take}
 use Rattle.bytes.specs.Filled.{Filled}
 use Rattle.http_server.specs.declared.log.Log.{Log}
 use Rattle.cap_base.specs.Limits.{resources}
@@ -11,7 +11,7 @@ use Rattle.cap_session.specs.Asked.{ReadResult, PayloadLog, payloads_in}
 use Rattle.cap_session.specs.Session.{SessionState, OpenRequest, open_payloads, open_requests, HasAnswered}
 use Rattle.cap_session.specs.declared.session.SessionCause.TheVariants as causes
 use Rattle.cap_session.specs.declared.session.Session.TheInside.{Inside}
-use Rattle.cap_session.specs.declared.find.TheConstants.{FRAME_ROOM}
+use Rattle.cap_session.specs.Rooms.{rooms}
 
 abbrev pub ReplyLog : Type 0
 ReplyLog = List (Reply resources × Unit {0})
@@ -56,6 +56,6 @@ pub record IsKept (s : Inside) : Type 0 where
   pub given : s.framer.given ≡ answered_in s.answered.items ++ (open_payloads s.asked.items ++ lost)
   pub reading : IsReading s.framer
   pub none_lost : s.ended ≡ None → lost ≡ []
-  pub room : FRAME_ROOM * length s.asked.items ≤ s.unsent.spare
+  pub room : rooms s.asked.items ≤ s.unsent.spare
   pub answers : HasAnswered (state_inside s)
   pub none_open : s.ended ≡ Some causes.BadLength → s.asked.items ≡ []

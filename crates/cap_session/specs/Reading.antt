@@ -13,7 +13,7 @@ use Rattle.cap_session.specs.declared.session.SessionCause.{SessionCause}
 use Rattle.cap_session.specs.declared.session.SessionCause.TheVariants as causes
 use Rattle.cap_session.specs.declared.session.Next.{Next}
 use Rattle.cap_session.specs.declared.session.Next.TheVariants as nexts
-use Rattle.cap_session.specs.declared.find.TheConstants.{FRAME_ROOM}
+use Rattle.cap_session.specs.Rooms.{open_room}
 
 -- some more requests were read, which are what the framer gave
 pub record ReadsAhead (h k : History) (old new : List OpenRequest) (had has : List (Request resources)) : Type 0 where
@@ -42,7 +42,7 @@ pub record AnswersAllBad (h k : History) (u v : List ℕ) (old new : AnswerLog) 
 -- what was found after some payloads that are no requests
 abbrev pub Finds : History → History → List OpenRequest → Filled → Filled → AnswerLog → AnswerLog → Next → Type 0
 Finds h k asked u v old new (nexts.Request request) = (payloads : List (List ℕ)) × (frames : List ℕ) × (o : OpenRequest) × AnswersBad h k u.items v.items old new payloads frames × (k.given ≡ h.given ++ (payloads ++ o.payload ∷ []))
-    × IsReading k × (asked ≡ o ∷ []) × (o.request ≡ request) × IsRead o × (FRAME_ROOM ≤ v.spare)
+    × IsReading k × (asked ≡ o ∷ []) × (o.request ≡ request) × IsRead o × (open_room o ≤ v.spare)
 Finds h k asked u v old new nexts.Need = AnswersAllBad h k u.items v.items old new × (asked ≡ []) × IsAtRest k
 Finds h k asked u v old new (nexts.Ended causes.BadLength) = (payloads : List (List ℕ)) × (frames : List ℕ) × (w : List ℕ) × AnswersBad h k u.items w old new payloads frames × (k.given ≡ h.given ++ payloads)
     × (v.items ≡ w ++ frame_of (fault_reply 40)) × (asked ≡ []) × IsReading k × IsAtFault k

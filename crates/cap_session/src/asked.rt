@@ -1,5 +1,6 @@
 //! What is kept of a payload that is a request until it is answered (`Asked`).
 ghost use Rattle.std.specs.Prelude.{◌≡◌, Ok};
+ghost use Rattle.cap_grammar.specs.Spelling.{kind_of};
 ghost use Rattle.cap_session.specs.Asked.{IsAsked, IsOpened, HasParts, first_open};
 
 use cap_base::RESOURCES;
@@ -52,6 +53,13 @@ impl Asked {
             kind: kind(request),
         };
         Asked { head, opened }
+    }
+
+    /// The kind of the request.
+    pub(crate) fn kind(&self) -> u8
+        ensures { result ≡ kind_of self.now.request }
+    {
+        self.head.kind
     }
 
     /// The head and the kind of the request, and the payload for contracts.

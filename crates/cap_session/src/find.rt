@@ -6,6 +6,7 @@ ghost use Rattle.cap_frames.specs.Stream.{frame_of};
 ghost use Rattle.cap_grammar.specs.Spelling.{IsKind, IsOfKind, IsReply, reply_bytes, fault_reply};
 ghost use Rattle.cap_grammar.specs.Versions.{is_version};
 ghost use Rattle.cap_session.specs.Reading.{Finds, EndsWith, ended_by};
+ghost use Rattle.cap_session.specs.Rooms.{kind_room};
 
 use crate::ahead::make_room;
 use crate::asked::{Asked, ReadPayload, ReplyHead};
@@ -14,7 +15,7 @@ use bytes::BytesMut;
 use cap_base::RESOURCES;
 use cap_frames::{FrameFault, Framer, close_frame, open_frame};
 use cap_grammar::{
-    BAD_LENGTH, BAD_MESSAGE, FAULT_ROOM, MessageFault, REPLY_ROOM, read_request, write_fault,
+    BAD_LENGTH, BAD_MESSAGE, FAULT_ROOM, MessageFault, kind, read_request, reply_room, write_fault,
     write_reply,
 };
 use cap_model::{NoMemory, OwnedReply};
@@ -22,8 +23,12 @@ use http_server::Log;
 use std::alloc::Global;
 use std::collections::VecDeque;
 
-/// The room that is made for the frame of a reply: its length, and what `write_reply` asks for.
-pub(crate) const FRAME_ROOM: usize = 4 + REPLY_ROOM;
+/// The room that is made for the frame of a reply to a request of this kind: its length, and what `write_reply` asks for.
+pub(crate) fn frame_room(kind: u8) -> usize
+    ensures { result ≡ kind_room kind }
+{
+    4 + reply_room(kind)
+}
 
 /// The payloads that were answered, each with the reply to its request, if it is one. It exists for contracts alone.
 pub(crate) type Answered = Log<ReadPayload, Log<OwnedReply<RESOURCES>, ()>>;
@@ -56,7 +61,7 @@ pub(crate) fn find(
         let opened = Log::new().and(&payload, &read);
         match read {
             Ok((head, request)) => {
-                if make_room(asked, unsent).is_err() {
+                if make_room(asked, frame_room(kind(&request)), unsent).is_err() {
                     return end(SessionCause::NoMemory, ended);
                 }
                 asked.push_back_reserved(Asked::new(head, &request, opened));
@@ -110,12 +115,12 @@ pub(crate) fn put_reply(head: ReplyHead, reply: &OwnedReply<RESOURCES>, unsent: 
     requires version { is_version resources head.of_request.version ≡ true }
     requires table { IsKind head.kind }
     requires kind { IsOfKind head.kind reply.now }
-    requires room { FRAME_ROOM ≤ unsent.old.spare }
+    requires room { kind_room head.kind ≤ unsent.old.spare }
     ensures appends { unsent.new.items
         ≡ unsent.old.items ++ frame_of (reply_bytes head.of_request head.kind reply.now) }
     ensures spells { IsReply (reply_bytes head.of_request head.kind reply.now)
         head.of_request head.kind reply.now }
-    ensures spare { unsent.old.spare ≤ unsent.new.spare + FRAME_ROOM }
+    ensures spare { unsent.old.spare ≤ unsent.new.spare + kind_room head.kind }
 {
     let start = open_frame(unsent);
     write_reply(head.of_request, head.kind, &reply.view(), unsent);

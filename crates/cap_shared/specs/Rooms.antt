@@ -9,7 +9,6 @@ use Rattle.cap_model.specs.declared.replies.AllocateNumbers.{AllocateNumbers}
 use Rattle.cap_model.specs.declared.reply.ReplyWith.{ReplyWith}
 use Rattle.cap_model.specs.declared.reply.ReplyWith.TheVariants as reply
 use Rattle.cap_model.specs.declared.request.Request.{Request}
-use Rattle.cap_model.specs.Stored.{HasRoomIfLong}
 use Rattle.cap_shared.specs.declared.call_room.CallRoom.{CallRoom}
 use Rattle.cap_shared.specs.declared.call_room.NewsRooms.{NewsRooms}
 use Rattle.cap_shared.specs.declared.call_room.ReplyCopies.{ReplyCopies}
@@ -23,9 +22,9 @@ HasRoomsFor reply None = HasRoomFor reply no_news
 abbrev pub AreRoomsFor : Flat resources → Request resources → Option NewsRooms → Type 0
 AreRoomsFor old request rooms = (reply : Reply resources) (new : Flat resources) → Replies old request reply new → HasRoomsFor reply rooms
 
--- the memory for a call: room for its entry where it has texts, a copy for its receipt, and room for its reply
+-- the memory for a call: its request, for its entry and for its receipt, and room for its reply
 pub record IsRoomFor (cluster : Flat resources) (request : Request resources) (room : CallRoom) : Type 0 where
-  pub entry : HasRoomIfLong request room.entry
+  pub entry : room.entry ≡ request
   pub receipt : room.receipt ≡ request
   pub news : AreRoomsFor cluster request room.news
 

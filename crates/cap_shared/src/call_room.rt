@@ -1,4 +1,5 @@
-//! What a call needs beside what the cluster itself needs: room for its entry and its receipt (`CallRoom`).
+//! What a call needs beside what the cluster itself needs: its request, for its entry and its receipt, and room for its reply
+//! (`CallRoom`).
 ghost use Rattle.std.specs.Prelude.{◌≡◌, ◌<◌, true, IfOk, OnOk, vec_len, vec_capacity};
 ghost use Rattle.cap_base.specs.Limits.{resources};
 ghost use Rattle.cap_model.specs.Flat.{Flat};
@@ -13,7 +14,7 @@ use cap_commit::Cluster;
 use cap_messages::dispatch;
 use cap_model::{
     AllocateReply, NoMemory, OwnedReply, Refusal, Reply, ReplyRoom, ReplyWith, Request,
-    RequestRoom, StoredRequest, request_room,
+    StoredRequest,
 };
 use std::alloc::Global;
 
@@ -116,7 +117,7 @@ fn own_without_lists(alloc: Global, reply: &Reply<RESOURCES>) -> OwnedReply<RESO
 /// All the memory that a call needs beside what the cluster itself needs.
 #[derive(Drop)]
 pub struct CallRoom {
-    pub entry: Option<RequestRoom<RESOURCES>>,
+    pub entry: StoredRequest<RESOURCES>,
     pub receipt: StoredRequest<RESOURCES>,
     pub news: Option<NewsRooms>,
 }
@@ -136,9 +137,10 @@ impl CallRoom {
         if receipts.reserve(1).is_err() {
             return Err(NoMemory);
         }
+        let entry = StoredRequest::of(alloc, request)?;
         Ok(CallRoom {
-            entry: request_room(alloc, request)?,
-            receipt: StoredRequest::of(alloc, request)?,
+            receipt: entry.share()?,
+            entry,
             news: news_rooms(alloc, cluster, request)?,
         })
     }

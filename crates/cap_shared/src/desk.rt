@@ -24,7 +24,7 @@ use bumpalo::Bump;
 use cap_base::RESOURCES;
 use cap_commit::Cluster;
 use cap_copy::ClusterCopy;
-use cap_model::{Event, NoMemory, OwnedReply, Proposal, Request, StoredRequest, Verdict};
+use cap_model::{Event, NoMemory, OwnedReply, Proposal, Request, Verdict};
 use cap_sights::{copy_in, snapshot_of};
 use cap_vector::Resource;
 use std::alloc::Global;
@@ -70,21 +70,20 @@ impl<J: Naming> Desk<J> {
         self.journal.len()
     }
 
-    /// Makes a call, with an entry and a receipt, which has its reply; the entry takes the lists of the request. A full journal is told
+    /// Makes a call, with an entry and a receipt, which has its reply; both share the lists of the request. A full journal is told
     /// first, and noted; if an allocation fails nothing changes.
     pub fn call(
         &mut self,
         alloc: Global,
         word: &Word,
         seat: &mut Seat<J>,
-        request: &mut Request<RESOURCES>,
+        request: &Request<RESOURCES>,
     ) -> Result<(), Fault>
         requires word { (word.now.table_id ≡ J.table) × (0 < word.now.table_id.words) }
         ensures answer { MatchResult result
-            (λ _. IsCalledOn self.old.cluster request.old self.new.cluster seat.old seat.new)
-            (CallMisses request.old J.limit seat.old seat.new) }
+            (λ _. IsCalledOn self.old.cluster request.now self.new.cluster seat.old seat.new)
+            (CallMisses request.now J.limit seat.old seat.new) }
         ensures full { IfErr result (TellsFull J.limit self.old.log) }
-        ensures back { OnErr result (request.new ≡ request.old) }
     {
         if self.journal.len() >= self.limit || self.answer(alloc, word, seat, request).is_err() {
             return Err(self.miss(word, seat, request));
@@ -98,13 +97,12 @@ impl<J: Naming> Desk<J> {
         alloc: Global,
         word: &Word,
         seat: &mut Seat<J>,
-        request: &mut Request<RESOURCES>,
+        request: &Request<RESOURCES>,
     ) -> Result<OwnedReply<RESOURCES>, Fault>
         requires word { (word.now.table_id ≡ J.table) × (0 < word.now.table_id.words) }
-        ensures answer { MatchResult result (CallsOk request.old seat.old seat.new)
-            (CallMisses request.old J.limit seat.old seat.new) }
+        ensures answer { MatchResult result (CallsOk request.now seat.old seat.new)
+            (CallMisses request.now J.limit seat.old seat.new) }
         ensures full { IfErr result (TellsFull J.limit self.old.log) }
-        ensures back { OnErr result (request.new ≡ request.old) }
     {
         let Ok(room) = self.cluster.reply_room(alloc, request) else {
             return Err(self.miss(word, seat, request));
@@ -138,15 +136,14 @@ impl<J: Naming> Desk<J> {
         alloc: Global,
         word: &Word,
         seat: &mut Seat<J>,
-        request: &mut Request<RESOURCES>,
+        request: &Request<RESOURCES>,
     ) -> Result<(), NoMemory>
         requires word { (word.now.table_id ≡ J.table) × (0 < word.now.table_id.words) }
         requires room { length self.old.log < J.limit }
         ensures answer { MatchResult result
-            (λ _. IsCalledOn self.old.cluster request.old self.new.cluster seat.old seat.new)
+            (λ _. IsCalledOn self.old.cluster request.now self.new.cluster seat.old seat.new)
             (λ _. seat.new ≡ seat.old) }
         ensures same { OnErr result (self.new.log ≡ self.old.log) }
-        ensures back { OnErr result (request.new ≡ request.old) }
     {
         let Ok(room) = CallRoom::of(alloc, &self.cluster, &mut seat.receipts, request) else {
             return Err(NoMemory);
@@ -160,7 +157,7 @@ impl<J: Naming> Desk<J> {
         let by = seat.number;
         let event = Event::Call {
             by,
-            request: StoredRequest::moved(alloc, request, room.entry),
+            request: room.entry,
             reply: copies.entry,
         };
         enter(

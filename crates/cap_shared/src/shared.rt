@@ -80,16 +80,11 @@ impl<'a, J: Naming> Drop for Hold<'a, J> {
 }
 
 impl<'a, J: Naming> Hold<'a, J> {
-    /// Makes a call, as `Shared::call`; its reply is in the last receipt of the seat. The entry takes the lists of the request; where it
-    /// is not made the request stays as it was.
-    pub fn call(
-        &mut self,
-        seat: &mut Seat<J>,
-        request: &mut Request<RESOURCES>,
-    ) -> Result<(), Fault>
-        ensures answer { MatchResult result (λ _. IsCalled request.old seat.old seat.new)
-            (CallMisses request.old J.limit seat.old seat.new) }
-        ensures back { OnErr result (request.new ≡ request.old) }
+    /// Makes a call, as `Shared::call`; its reply is in the last receipt of the seat. The entry and the receipt share the lists of the
+    /// request.
+    pub fn call(&mut self, seat: &mut Seat<J>, request: &Request<RESOURCES>) -> Result<(), Fault>
+        ensures answer { MatchResult result (λ _. IsCalled request.now seat.old seat.new)
+            (CallMisses request.now J.limit seat.old seat.new) }
     {
         self.desk.call(self.alloc, self.word, seat, request)
     }
@@ -98,11 +93,10 @@ impl<'a, J: Naming> Hold<'a, J> {
     fn call_for_reply(
         &mut self,
         seat: &mut Seat<J>,
-        request: &mut Request<RESOURCES>,
+        request: &Request<RESOURCES>,
     ) -> Result<OwnedReply<RESOURCES>, Fault>
-        ensures answer { MatchResult result (CallsOk request.old seat.old seat.new)
-            (CallMisses request.old J.limit seat.old seat.new) }
-        ensures back { OnErr result (request.new ≡ request.old) }
+        ensures answer { MatchResult result (CallsOk request.now seat.old seat.new)
+            (CallMisses request.now J.limit seat.old seat.new) }
     {
         self.desk
             .call_for_reply(self.alloc, self.word, seat, request)
@@ -175,8 +169,7 @@ impl<J: Naming> Shared<J> {
         ensures { MatchResult result (CallsOk request seat.old seat.new)
             (CallsBack request J.limit seat.old seat.new) }
     {
-        let mut request = request;
-        let answer = self.hold(rt).call_for_reply(seat, &mut request);
+        let answer = self.hold(rt).call_for_reply(seat, &request);
         match answer {
             Ok(reply) => Ok(reply),
             Err(Fault::Sealed) => Err(CallFault::Sealed(request)),

@@ -66,7 +66,7 @@ fn call_all<J: Naming, H: Wait>(
     let mut held = shared.hold(rt);
     let mut request = first;
     loop {
-        match held.call(seat, &mut request) {
+        match held.call(seat, &request) {
             Ok(()) => {}
             Err(Fault::NoMemory) => return Called::Starved,
             Err(Fault::Sealed) => return Called::Sealed(request),

@@ -4,7 +4,6 @@ ghost use Rattle.cap_base.specs.Limits.{resources};
 ghost use Rattle.cap_model.specs.News.{Reply};
 ghost use Rattle.cap_model.specs.Replies.{Replies};
 ghost use Rattle.cap_model.specs.Reporting.{HasRoomForReplies};
-ghost use Rattle.cap_model.specs.Stored.{HasRoomIfLong};
 ghost use Rattle.cap_session.specs.Session.{SpellsAnswer, after_answer, bytes_unanswered};
 ghost use Rattle.cap_world.specs.Answers.{call_event};
 ghost use Rattle.cap_world.specs.Serving.{IsServed, IsOpenFor, standing_of};
@@ -13,7 +12,7 @@ use crate::connection::Standing;
 use cap_base::RESOURCES;
 use cap_commit::Cluster;
 use cap_messages::dispatch;
-use cap_model::{Event, NoMemory, ReplyRoom, Request, RequestRoom, StoredRequest, request_room};
+use cap_model::{Event, NoMemory, ReplyRoom, Request, StoredRequest};
 use cap_session::{Next, Session, SessionCause};
 use std::alloc::Global;
 
@@ -36,7 +35,7 @@ pub(crate) fn answer_all(
                 let Ok(room) = CallRoom::of(alloc, cluster, &request, events) else {
                     return Standing::Starved;
                 };
-                perform(alloc, by, request, room, session, cluster, events);
+                perform(alloc, by, &request, room, session, cluster, events);
             }
             Next::Need => return Standing::Open,
             Next::Ended(cause) => return standing_after(cause),
@@ -44,10 +43,10 @@ pub(crate) fn answer_all(
     }
 }
 
-/// The memory for the event of a call: a copy of its request where that has texts, and room for its reply.
+/// The memory for the event of a call: its request, and room for its reply.
 #[derive(Drop)]
 struct CallRoom {
-    request: Option<RequestRoom<RESOURCES>>,
+    request: StoredRequest<RESOURCES>,
     reply: ReplyRoom<RESOURCES>,
 }
 
@@ -59,7 +58,7 @@ impl CallRoom {
         request: &Request<RESOURCES>,
         events: &mut Vec<Event<RESOURCES>>,
     ) -> Result<CallRoom, NoMemory>
-        ensures request { IfOk result (λ room. HasRoomIfLong request.now room.request) }
+        ensures request { IfOk result (λ room. room.request ≡ request.now) }
         ensures reply { IfOk result
             (λ room. HasRoomForReplies cluster.now.flat request.now room.reply) }
         ensures room { OnOk result (vec_len events.new < vec_capacity events.new) }
@@ -69,7 +68,7 @@ impl CallRoom {
             return Err(NoMemory);
         }
         Ok(CallRoom {
-            request: request_room(alloc, request)?,
+            request: StoredRequest::of(alloc, request)?,
             reply: cluster.reply_room(alloc, request)?,
         })
     }
@@ -89,27 +88,26 @@ fn standing_after(cause: SessionCause) -> Standing
 fn perform(
     alloc: Global,
     by: u32,
-    request: Request<RESOURCES>,
+    request: &Request<RESOURCES>,
     room: CallRoom,
     session: &mut Session,
     cluster: &mut Cluster<RESOURCES>,
     events: &mut Vec<Event<RESOURCES>>,
 )
-    requires open { IsOpenFor request session.old.opens }
+    requires open { IsOpenFor request.now session.old.opens }
     requires room { vec_len events.old < vec_capacity events.old }
-    requires request { HasRoomIfLong request room.request }
-    requires reply { HasRoomForReplies cluster.old.flat request room.reply }
+    requires request { room.request ≡ request.now }
+    requires reply { HasRoomForReplies cluster.old.flat request.now room.reply }
     ensures performed { (reply : Reply resources)
-        × Replies cluster.old.flat request reply cluster.new.flat
+        × Replies cluster.old.flat request.now reply cluster.new.flat
         × (session.new ≡ after_answer session.old reply)
         × SpellsAnswer session.old.opens reply
-        × (events.new.items ≡ events.old.items ++ call_event by request reply ∷ []) }
+        × (events.new.items ≡ events.old.items ++ call_event by request.now reply ∷ []) }
     ensures less { bytes_unanswered session.new < bytes_unanswered session.old }
 {
-    let given = dispatch(alloc, cluster, &request);
+    let given = dispatch(alloc, cluster, request);
     let reply = room.reply.own(&cluster.view(&given));
     session.answer(&reply);
-    let mut request = request;
-    let request = StoredRequest::moved(alloc, &mut request, room.request);
+    let request = room.request;
     events.push_reserved(Event::Call { by, request, reply });
 }

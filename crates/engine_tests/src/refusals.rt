@@ -2,6 +2,7 @@
 mod calls;
 mod frugal;
 mod heaps;
+mod requests;
 mod sessions;
 mod shared;
 mod trees;

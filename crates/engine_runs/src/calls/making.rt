@@ -82,7 +82,7 @@ fn request(alloc: Global, kind: Kind, app: u64, index: u32) -> Option<Request<RE
             app,
             response: index,
             asks: asks(alloc)?,
-            releases: Numbers::of(Vec::new(alloc)),
+            releases: Numbers::empty(),
         }),
     }
 }
@@ -102,5 +102,5 @@ fn asks(alloc: Global) -> Option<Asks<RESOURCES>> {
     if asks.len() > 256 {
         return None;
     }
-    Some(List::of(asks))
+    List::of(alloc, asks).ok()
 }

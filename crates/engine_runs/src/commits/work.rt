@@ -103,7 +103,7 @@ fn finish(alloc: Global, cluster: &mut Cluster<RESOURCES>, size: &Size, index: u
 fn one(alloc: Global, number: u64) -> Option<Numbers> {
     let mut numbers = Vec::new(alloc);
     numbers.push(number).ok()?;
-    Some(List::of(numbers))
+    List::of(alloc, numbers).ok()
 }
 
 /// Whether a proposal is made.

@@ -226,7 +226,7 @@ fn request_of(alloc: Global, step: Step<'_>) -> Option<Request<RESOURCES>> {
             app,
             response: 0,
             asks: asks(alloc)?,
-            releases: Numbers::of(Vec::new(alloc)),
+            releases: Numbers::empty(),
         },
         Step::RegisterNode(host) => Request::RegisterNode {
             host: ShortText::new(host)?,
@@ -247,5 +247,5 @@ fn asks(alloc: Global) -> Option<Asks<RESOURCES>> {
     let mut asks = Vec::new(alloc);
     asks.push(Ask::new(&key, 2, &resource, &ShortText::any()))
         .ok()?;
-    Some(List::of(asks))
+    List::of(alloc, asks).ok()
 }

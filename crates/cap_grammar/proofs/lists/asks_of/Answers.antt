@@ -1,4 +1,4 @@
-use Rattle.cap_grammar.proofs.Prelude.{length, length-append, ap, ◌∙◌, arith, nat_le, w16, number_at, an_ask, asks_max, resources, amounts_in}
+use Rattle.cap_grammar.proofs.Prelude.{[], refl, length, length-append, ap, ◌∙◌, arith, nat_le, w16, number_at, an_ask, asks_max, resources, amounts_in}
 use Rattle.cap_grammar.proofs.ItemLaws.{has_items}
 use Rattle.cap_grammar.proofs.ListLaws.{counted_start, counted_fails, more_step, more_fails, more_ends}
 use Rattle.cap_grammar.proofs.lists.asks_of.Goals as goal
@@ -18,13 +18,13 @@ loop-i-preserved c = record {
   count = (let items = c.in-Ok-push.ensures.items in let so_far = c.loop-i.invariant.count in let more = ap length items ∙ length-append c.loop-i.asks.items _ in omega (arith, so_far, more));
 }
 
-pub returns-clause-gives : goal.returns-clause-gives
-returns-clause-gives c = rw c.of-2.ensures (more_ends (an_ask resources (amounts_in c.args.version)).read _ _ c.in-Ok.length c.loop-i.i _ c.loop-i.invariant.rest (omega (arith, c.loop-i-test.false)))
+pub returns-in-Ok-of-clause-gives : goal.returns-in-Ok-of-clause-gives
+returns-in-Ok-of-clause-gives c = rw c.in-Ok-of.ensures (more_ends (an_ask resources (amounts_in c.args.version)).read _ _ c.in-Ok.length c.loop-i.i _ c.loop-i.invariant.rest (omega (arith, c.loop-i-test.false)))
 
 pub returns-then-length-eq0-clause-gives : goal.returns-then-length-eq0-clause-gives
 returns-then-length-eq0-clause-gives c =
     let none = c.if-length-eq0.true in
-    rw c.of.ensures (more_ends (an_ask resources (amounts_in c.args.version)).read _ c.new.result.items c.in-Ok.length 0 _ (counted_start (an_ask resources (amounts_in c.args.version)).read (number_at w16) asks_max _ c.in-Ok.length _ c.new.result.items c.in-Ok.ensures.gives c.new.ensures.items) (omega (arith, none)))
+    rw c.empty.ensures (more_ends (an_ask resources (amounts_in c.args.version)).read _ [] c.in-Ok.length 0 _ (counted_start (an_ask resources (amounts_in c.args.version)).read (number_at w16) asks_max _ c.in-Ok.length _ [] c.in-Ok.ensures.gives refl) (omega (arith, none)))
 
 pub returns-in_default-with_capacity-clause-memory : goal.returns-in_default-with_capacity-clause-memory
 returns-in_default-with_capacity-clause-memory c = λ is. has_items w16 (λ n. nat_le n asks_max) c.args.bytes.now c.in-Ok.length _ c.in-Ok.ensures.gives (let some = c.if-length-eq0.false in omega (arith, some))

@@ -12,10 +12,10 @@ pub returns-then-size-eq0-clause-gives : goal.returns-then-size-eq0-clause-gives
 returns-then-size-eq0-clause-gives c =
     let none = c.if-size-eq0.true in
     let whole = counted_bytes (number_at w32) text_max _ _ _ c.in-Ok.ensures.gives (omega (arith, none)) in
-    rw (c.of.ensures, c.new-text.ensures.items, c.split_at.ensures.back, none) (whole ∙ rw none refl)
+    rw (c.empty.ensures, c.split_at.ensures.back, none) (whole ∙ rw none refl)
 
-pub returns-clause-gives : goal.returns-clause-gives
-returns-clause-gives c =
+pub returns-in-Ok-of-clause-gives : goal.returns-in-Ok-of-clause-gives
+returns-in-Ok-of-clause-gives c =
     let long = c.if-rest-size.false in
     let whole = counted_bytes (number_at w32) text_max _ _ _ c.in-Ok.ensures.gives (omega (arith, long)) in
-    rw (c.of-2.ensures, c.in-Ok-extend_from_slice.ensures.items, c.new-text.ensures.items, c.split_at.ensures.front, c.split_at.ensures.back) whole
+    rw (c.in-Ok-of.ensures, c.in-Ok-extend_from_slice.ensures.items, c.new-text.ensures.items, c.split_at.ensures.front, c.split_at.ensures.back) whole

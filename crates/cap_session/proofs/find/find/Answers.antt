@@ -1,4 +1,4 @@
-use Rattle.cap_session.proofs.Prelude.{rules, ◌≡◌, [], ◌∷◌, ◌++◌, List, ℕ, Err, ap, refl, sym, subst, ◌∙◌, arith, length, MessageFault, Bad, FrameFault, resources, IsNoRequest, ReadResult, IsReadFrom, OpenRequest}
+use Rattle.cap_session.proofs.Prelude.{◌≤◌, Request, kind_of, kind_room, rules, ◌≡◌, [], ◌∷◌, ◌++◌, List, ℕ, Err, ap, refl, sym, subst, ◌∙◌, MessageFault, Bad, FrameFault, resources, IsNoRequest, ReadResult, IsReadFrom, OpenRequest}
 use Rattle.cap_session.proofs.Reading.{opens, opens_request, opened_is, at_fault, has_room}
 use Rattle.cap_session.proofs.SessionSteps.{bad_none, bad_more, bad_given, fault_found}
 use Rattle.cap_session.proofs.find.find.Goals as goal
@@ -47,7 +47,7 @@ returns-in-Ok-clause-finds c =
       c.push_back_reserved.ensures.items ∙ ap (λ (x : List OpenRequest). x ++ o ∷ []) asked,
       request,
       read,
-      omega (arith, ap (λ (x : List OpenRequest). length x) asked, room.1),
+      subst (λ (n : ℕ). n ≤ c.make_room.new.unsent.spare) (c.frame_room.ensures ∙ ap kind_room c.kind.ensures ∙ ap (λ (x : Request resources). kind_room (kind_of x)) (sym request)) room.1,
     )
 
 pub returns-in-Err-NoMemory-clause-finds : goal.returns-in-Err-NoMemory-clause-finds

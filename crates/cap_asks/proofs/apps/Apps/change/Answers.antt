@@ -3,6 +3,7 @@ use Rattle.std.specs.Cmp.{booleans_Decides}
 use Rattle.cap_asks.specs.Changes.{changed_by}
 use Rattle.cap_asks.proofs.Changing.{may_change, none_takes}
 use Rattle.cap_asks.proofs.Entries.{by_number}
+use Rattle.cap_asks.proofs.KeptAsks.{keeps_asks}
 use Rattle.cap_asks.proofs.Slots.{slot_taken, opened, looked_at}
 use Rattle.cap_asks.proofs.Waiters.{changed, unchanged, waiters_rise}
 use Rattle.cap_asks.proofs.apps.Apps.change.Goals as goal
@@ -23,22 +24,22 @@ pub set_waiting-requires-clause-rising : goal.set_waiting-requires-clause-rising
 set_waiting-requires-clause-rising g c = waiters_rise c.self.invariant
 
 pub set_waiting-requires-clause-room : goal.set_waiting-requires-clause-room
-set_waiting-requires-clause-room g c = (changed c.args.n (changed_by c.args.change) c.in-Some.field-0.now c.index_mut.result.now c.deref_mut-app.result.now c.change.new.self c.self.inside.apps c.self.inside.index.entries c.self.invariant c.in-Some.ensures.value c.index_mut.ensures.value c.deref_mut-app.ensures.value c.change.ensures.app c.change.ensures.number c.change.ensures.account c.is_waiting-waited.ensures c.is_waiting-waits.ensures).fits c.if-waits-waited.false
+set_waiting-requires-clause-room g c = (changed c.args.n (changed_by c.args.change) (keeps_asks c.args.change) c.in-Some.field-0.now c.index_mut.result.now c.deref_mut-app.result.now c.change.new.self c.self.inside.apps c.self.inside.index.entries c.self.invariant c.in-Some.ensures.value c.index_mut.ensures.value c.deref_mut-app.ensures.value c.change.ensures.app c.change.ensures.number c.change.ensures.account c.is_waiting-waited.ensures c.is_waiting-waits.ensures).fits c.if-waits-waited.false
 
 pub invariant_of-self-2 : goal.invariant_of-self-2
-invariant_of-self-2 g c = (changed c.args.n (changed_by c.args.change) c.in-Some.field-0.now c.index_mut.result.now c.deref_mut-app.result.now c.change.new.self c.self.inside.apps c.self.inside.index.entries c.self.invariant c.in-Some.ensures.value c.index_mut.ensures.value c.deref_mut-app.ensures.value c.change.ensures.app c.change.ensures.number c.change.ensures.account c.is_waiting-waited.ensures c.is_waiting-waits.ensures).put c.if-waits-waited.false c.set_waiting.ensures.items c.set_waiting.ensures.room
+invariant_of-self-2 g c = (changed c.args.n (changed_by c.args.change) (keeps_asks c.args.change) c.in-Some.field-0.now c.index_mut.result.now c.deref_mut-app.result.now c.change.new.self c.self.inside.apps c.self.inside.index.entries c.self.invariant c.in-Some.ensures.value c.index_mut.ensures.value c.deref_mut-app.ensures.value c.change.ensures.app c.change.ensures.number c.change.ensures.account c.is_waiting-waited.ensures c.is_waiting-waits.ensures).put c.if-waits-waited.false c.set_waiting.ensures.items c.set_waiting.ensures.room
 
 pub invariant_of-self : goal.invariant_of-self
-invariant_of-self g c = (changed c.args.n (changed_by c.args.change) c.in-Some.field-0.now c.index_mut.result.now c.deref_mut-app.result.now c.change.new.self c.self.inside.apps c.self.inside.index.entries c.self.invariant c.in-Some.ensures.value c.index_mut.ensures.value c.deref_mut-app.ensures.value c.change.ensures.app c.change.ensures.number c.change.ensures.account c.is_waiting-waited.ensures c.is_waiting-waits.ensures).stays ((booleans_Decides c.is_waiting-waits.result c.is_waiting-waited.result).0 c.if-waits-waited.true)
+invariant_of-self g c = (changed c.args.n (changed_by c.args.change) (keeps_asks c.args.change) c.in-Some.field-0.now c.index_mut.result.now c.deref_mut-app.result.now c.change.new.self c.self.inside.apps c.self.inside.index.entries c.self.invariant c.in-Some.ensures.value c.index_mut.ensures.value c.deref_mut-app.ensures.value c.change.ensures.app c.change.ensures.number c.change.ensures.account c.is_waiting-waited.ensures c.is_waiting-waits.ensures).stays ((booleans_Decides c.is_waiting-waits.result c.is_waiting-waited.result).0 c.if-waits-waited.true)
 
 pub returns-then-waits-waited-clause-table : goal.returns-then-waits-waited-clause-table
-returns-then-waits-waited-clause-table g c = rw (← c.self.view_is) (changed c.args.n (changed_by c.args.change) c.in-Some.field-0.now c.index_mut.result.now c.deref_mut-app.result.now c.change.new.self c.self.inside.apps c.self.inside.index.entries c.self.invariant c.in-Some.ensures.value c.index_mut.ensures.value c.deref_mut-app.ensures.value c.change.ensures.app c.change.ensures.number c.change.ensures.account c.is_waiting-waited.ensures c.is_waiting-waits.ensures).table
+returns-then-waits-waited-clause-table g c = rw (← c.self.view_is) (changed c.args.n (changed_by c.args.change) (keeps_asks c.args.change) c.in-Some.field-0.now c.index_mut.result.now c.deref_mut-app.result.now c.change.new.self c.self.inside.apps c.self.inside.index.entries c.self.invariant c.in-Some.ensures.value c.index_mut.ensures.value c.deref_mut-app.ensures.value c.change.ensures.app c.change.ensures.number c.change.ensures.account c.is_waiting-waited.ensures c.is_waiting-waits.ensures).table
 
 pub returns-then-waits-waited-clause-accounts : goal.returns-then-waits-waited-clause-accounts
-returns-then-waits-waited-clause-accounts g c = rw (← c.self.view_is) (changed c.args.n (changed_by c.args.change) c.in-Some.field-0.now c.index_mut.result.now c.deref_mut-app.result.now c.change.new.self c.self.inside.apps c.self.inside.index.entries c.self.invariant c.in-Some.ensures.value c.index_mut.ensures.value c.deref_mut-app.ensures.value c.change.ensures.app c.change.ensures.number c.change.ensures.account c.is_waiting-waited.ensures c.is_waiting-waits.ensures).accounts
+returns-then-waits-waited-clause-accounts g c = rw (← c.self.view_is) (changed c.args.n (changed_by c.args.change) (keeps_asks c.args.change) c.in-Some.field-0.now c.index_mut.result.now c.deref_mut-app.result.now c.change.new.self c.self.inside.apps c.self.inside.index.entries c.self.invariant c.in-Some.ensures.value c.index_mut.ensures.value c.deref_mut-app.ensures.value c.change.ensures.app c.change.ensures.number c.change.ensures.account c.is_waiting-waited.ensures c.is_waiting-waits.ensures).accounts
 
 pub returns-clause-table : goal.returns-clause-table
-returns-clause-table g c = rw (← c.self.view_is) (changed c.args.n (changed_by c.args.change) c.in-Some.field-0.now c.index_mut.result.now c.deref_mut-app.result.now c.change.new.self c.self.inside.apps c.self.inside.index.entries c.self.invariant c.in-Some.ensures.value c.index_mut.ensures.value c.deref_mut-app.ensures.value c.change.ensures.app c.change.ensures.number c.change.ensures.account c.is_waiting-waited.ensures c.is_waiting-waits.ensures).table
+returns-clause-table g c = rw (← c.self.view_is) (changed c.args.n (changed_by c.args.change) (keeps_asks c.args.change) c.in-Some.field-0.now c.index_mut.result.now c.deref_mut-app.result.now c.change.new.self c.self.inside.apps c.self.inside.index.entries c.self.invariant c.in-Some.ensures.value c.index_mut.ensures.value c.deref_mut-app.ensures.value c.change.ensures.app c.change.ensures.number c.change.ensures.account c.is_waiting-waited.ensures c.is_waiting-waits.ensures).table
 
 pub returns-clause-accounts : goal.returns-clause-accounts
-returns-clause-accounts g c = rw (← c.self.view_is) (changed c.args.n (changed_by c.args.change) c.in-Some.field-0.now c.index_mut.result.now c.deref_mut-app.result.now c.change.new.self c.self.inside.apps c.self.inside.index.entries c.self.invariant c.in-Some.ensures.value c.index_mut.ensures.value c.deref_mut-app.ensures.value c.change.ensures.app c.change.ensures.number c.change.ensures.account c.is_waiting-waited.ensures c.is_waiting-waits.ensures).accounts
+returns-clause-accounts g c = rw (← c.self.view_is) (changed c.args.n (changed_by c.args.change) (keeps_asks c.args.change) c.in-Some.field-0.now c.index_mut.result.now c.deref_mut-app.result.now c.change.new.self c.self.inside.apps c.self.inside.index.entries c.self.invariant c.in-Some.ensures.value c.index_mut.ensures.value c.deref_mut-app.ensures.value c.change.ensures.app c.change.ensures.number c.change.ensures.account c.is_waiting-waited.ensures c.is_waiting-waits.ensures).accounts

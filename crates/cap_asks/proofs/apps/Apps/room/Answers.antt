@@ -8,10 +8,10 @@ pub index_mut-requires : goal.index_mut-requires
 index_mut-requires g c = slot_taken c.self.inside.apps c.self.inside.index.entries c.args.n c.self.inside.next c.self.invariant.numbered c.in-Some.ensures.value
 
 pub invariant_of-self : goal.invariant_of-self
-invariant_of-self g c = (changed c.args.n (λ app. app) c.in-Some.field-0.now c.index_mut.result.now c.deref_mut-app.result.now c.reserve.new.self c.self.inside.apps c.self.inside.index.entries c.self.invariant c.in-Some.ensures.value c.index_mut.ensures.value c.deref_mut-app.ensures.value c.reserve.ensures.app (ap (λ (a : App). a.number) c.reserve.ensures.app) c.reserve.ensures.stays refl refl).stays (ap is_waiting c.reserve.ensures.app)
+invariant_of-self g c = (changed c.args.n (λ app. app) (λ app kept. kept) c.in-Some.field-0.now c.index_mut.result.now c.deref_mut-app.result.now c.reserve.new.self c.self.inside.apps c.self.inside.index.entries c.self.invariant c.in-Some.ensures.value c.index_mut.ensures.value c.deref_mut-app.ensures.value c.reserve.ensures.app (ap (λ (a : App). a.number) c.reserve.ensures.app) c.reserve.ensures.stays refl refl).stays (ap is_waiting c.reserve.ensures.app)
 
 pub returns-clause-stays : goal.returns-clause-stays
-returns-clause-stays g c = rw (← c.self.view_is) (changed c.args.n (λ app. app) c.in-Some.field-0.now c.index_mut.result.now c.deref_mut-app.result.now c.reserve.new.self c.self.inside.apps c.self.inside.index.entries c.self.invariant c.in-Some.ensures.value c.index_mut.ensures.value c.deref_mut-app.ensures.value c.reserve.ensures.app (ap (λ (a : App). a.number) c.reserve.ensures.app) c.reserve.ensures.stays refl refl).accounts
+returns-clause-stays g c = rw (← c.self.view_is) (changed c.args.n (λ app. app) (λ app kept. kept) c.in-Some.field-0.now c.index_mut.result.now c.deref_mut-app.result.now c.reserve.new.self c.self.inside.apps c.self.inside.index.entries c.self.invariant c.in-Some.ensures.value c.index_mut.ensures.value c.deref_mut-app.ensures.value c.reserve.ensures.app (ap (λ (a : App). a.number) c.reserve.ensures.app) c.reserve.ensures.stays refl refl).accounts
 
 on_ok : {P Q : Type 0} (r : Result (Unit {0}) NoMemory) → (P → Q) → OnOk r P → OnOk r Q
 on_ok (Ok x) f p = f p
@@ -26,13 +26,13 @@ unreachable-requires g c =
 pub returns-clause-table : goal.returns-clause-table
 returns-clause-table g c =
     let es = entries_at (held_at c.self.inside.apps) c.self.inside.index.entries in
-    let same = ap apps_of (changed c.args.n (λ app. app) c.in-Some.field-0.now c.index_mut.result.now c.deref_mut-app.result.now c.reserve.new.self c.self.inside.apps c.self.inside.index.entries c.self.invariant c.in-Some.ensures.value c.index_mut.ensures.value c.deref_mut-app.ensures.value c.reserve.ensures.app (ap (λ (a : App). a.number) c.reserve.ensures.app) c.reserve.ensures.stays refl refl).entries ∙ same_apps c.args.n es c.deref_mut-app.result.now c.reserve.new.self (opened c.self.inside.apps c.self.inside.index.entries c.args.n c.in-Some.field-0.now c.index_mut.result.now c.deref_mut-app.result.now c.in-Some.ensures.value c.index_mut.ensures.value c.deref_mut-app.ensures.value) c.reserve.ensures.app in
+    let same = ap apps_of (changed c.args.n (λ app. app) (λ app kept. kept) c.in-Some.field-0.now c.index_mut.result.now c.deref_mut-app.result.now c.reserve.new.self c.self.inside.apps c.self.inside.index.entries c.self.invariant c.in-Some.ensures.value c.index_mut.ensures.value c.deref_mut-app.ensures.value c.reserve.ensures.app (ap (λ (a : App). a.number) c.reserve.ensures.app) c.reserve.ensures.stays refl refl).entries ∙ same_apps c.args.n es c.deref_mut-app.result.now c.reserve.new.self (opened c.self.inside.apps c.self.inside.index.entries c.args.n c.in-Some.field-0.now c.index_mut.result.now c.deref_mut-app.result.now c.in-Some.ensures.value c.index_mut.ensures.value c.deref_mut-app.ensures.value) c.reserve.ensures.app in
     rw (← c.self.view_is) (ap (λ xs. record { active = xs; next = c.self.inside.next }) same)
 
 pub returns-clause-ok : goal.returns-clause-ok
 returns-clause-ok g c =
     let es = entries_at (held_at c.self.inside.apps) c.self.inside.index.entries in
-    let done = (changed c.args.n (λ app. app) c.in-Some.field-0.now c.index_mut.result.now c.deref_mut-app.result.now c.reserve.new.self c.self.inside.apps c.self.inside.index.entries c.self.invariant c.in-Some.ensures.value c.index_mut.ensures.value c.deref_mut-app.ensures.value c.reserve.ensures.app (ap (λ (a : App). a.number) c.reserve.ensures.app) c.reserve.ensures.stays refl refl) in
+    let done = (changed c.args.n (λ app. app) (λ app kept. kept) c.in-Some.field-0.now c.index_mut.result.now c.deref_mut-app.result.now c.reserve.new.self c.self.inside.apps c.self.inside.index.entries c.self.invariant c.in-Some.ensures.value c.index_mut.ensures.value c.deref_mut-app.ensures.value c.reserve.ensures.app (ap (λ (a : App). a.number) c.reserve.ensures.app) c.reserve.ensures.stays refl refl) in
     on_ok c.reserve.result (λ has. rw done.entries (has_rooms c.args.n c.args.asks c.args.grants c.args.ends _ c.reserve.new.self (found_after c.args.n es c.deref_mut-app.result.now c.reserve.new.self (opened c.self.inside.apps c.self.inside.index.entries c.args.n c.in-Some.field-0.now c.index_mut.result.now c.deref_mut-app.result.now c.in-Some.ensures.value c.index_mut.ensures.value c.deref_mut-app.ensures.value)) has)) c.reserve.ensures.ok
 
 pub returns-clause-succeeds : goal.returns-clause-succeeds

@@ -9,6 +9,9 @@ overflow_sub-more g c = let few = few_waiters c.self.invariant in omega (arith, 
 pub invariant_of-self-in_default-new : goal.invariant_of-self-in_default-new
 invariant_of-self-in_default-new g c = (grown c.self.invariant (ap held_at c.reserve-2.ensures.rest_kept) c.reserve.ensures.items c.reserve.ensures.capacity)
 
+pub invariant_of-self-in_default-insert : goal.invariant_of-self-in_default-insert
+invariant_of-self-in_default-insert g c = rw c.in_default-insert.ensures.err (grown c.self.invariant (ap held_at c.reserve-2.ensures.rest_kept) c.reserve.ensures.items c.reserve.ensures.capacity)
+
 pub returns-in_default-new-clause-table_stays : goal.returns-in_default-new-clause-table_stays
 returns-in_default-new-clause-table_stays g c =
     rw (← c.self.view_is) (ap (λ held. record { active = apps_of (entries_at held c.self.inside.index.entries); next = c.self.inside.next }) (ap held_at c.reserve-2.ensures.rest_kept))
@@ -19,16 +22,16 @@ returns-in_default-new-clause-accounts_stay g c = rw (← c.self.view_is) (ap (�
 pub invariant_of-self-2 : goal.invariant_of-self-2
 invariant_of-self-2 g c =
     let few = few_waiters c.self.invariant in
-    (entered c.insert_reserved.result c.in-Ok-new.app c.new-app.result c.reserve-2.new.self c.insert_reserved.new.self c.self.inside.index.entries c.insert.new.self.entries (grown c.self.invariant (ap held_at c.reserve-2.ensures.rest_kept) c.reserve.ensures.items c.reserve.ensures.capacity) (c.in-Ok-insert.ensures.entries ∙ ap (insert_entry nat_cmp c.self.inside.index.entries c.self.inside.next) (c.vacant_key.ensures.value ∙ sym c.insert_reserved.ensures.key)) c.insert_reserved.ensures.updates c.insert_reserved.ensures.was_vacant c.in-Ok-new.ensures.ok (ap (λ (a : App). a.number) c.new-app.ensures.app) (ap is_waiting c.new-app.ensures.app)).whole (omega (arith, few, c.len.ensures.len, c.len-2.ensures, c.in-Ok.ensures.ok))
+    (entered c.insert_reserved.result c.in-Ok-new.app c.new-app.result c.reserve-2.new.self c.insert_reserved.new.self c.self.inside.index.entries c.insert.new.self.entries (grown c.self.invariant (ap held_at c.reserve-2.ensures.rest_kept) c.reserve.ensures.items c.reserve.ensures.capacity) (c.in-Ok-insert.ensures.entries ∙ ap (insert_entry nat_cmp c.self.inside.index.entries c.self.inside.next) (c.vacant_key.ensures.value ∙ sym c.insert_reserved.ensures.key)) c.insert_reserved.ensures.updates c.insert_reserved.ensures.was_vacant c.in-Ok-new.ensures.ok (ap (λ (a : App). a.number) c.new-app.ensures.app) (rw c.new-app.ensures.app tt) (ap is_waiting c.new-app.ensures.app)).whole (omega (arith, few, c.len.ensures.len, c.len-2.ensures, c.in-Ok.ensures.ok))
 
 pub returns-clause-table : goal.returns-clause-table
 returns-clause-table g c =
-    let entries = (entered c.insert_reserved.result c.in-Ok-new.app c.new-app.result c.reserve-2.new.self c.insert_reserved.new.self c.self.inside.index.entries c.insert.new.self.entries (grown c.self.invariant (ap held_at c.reserve-2.ensures.rest_kept) c.reserve.ensures.items c.reserve.ensures.capacity) (c.in-Ok-insert.ensures.entries ∙ ap (insert_entry nat_cmp c.self.inside.index.entries c.self.inside.next) (c.vacant_key.ensures.value ∙ sym c.insert_reserved.ensures.key)) c.insert_reserved.ensures.updates c.insert_reserved.ensures.was_vacant c.in-Ok-new.ensures.ok (ap (λ (a : App). a.number) c.new-app.ensures.app) (ap is_waiting c.new-app.ensures.app)).entries ∙ ap (λ held. entries_at held c.self.inside.index.entries ++ (c.self.inside.next, c.new-app.result) ∷ []) (ap held_at c.reserve-2.ensures.rest_kept) in
+    let entries = (entered c.insert_reserved.result c.in-Ok-new.app c.new-app.result c.reserve-2.new.self c.insert_reserved.new.self c.self.inside.index.entries c.insert.new.self.entries (grown c.self.invariant (ap held_at c.reserve-2.ensures.rest_kept) c.reserve.ensures.items c.reserve.ensures.capacity) (c.in-Ok-insert.ensures.entries ∙ ap (insert_entry nat_cmp c.self.inside.index.entries c.self.inside.next) (c.vacant_key.ensures.value ∙ sym c.insert_reserved.ensures.key)) c.insert_reserved.ensures.updates c.insert_reserved.ensures.was_vacant c.in-Ok-new.ensures.ok (ap (λ (a : App). a.number) c.new-app.ensures.app) (rw c.new-app.ensures.app tt) (ap is_waiting c.new-app.ensures.app)).entries ∙ ap (λ held. entries_at held c.self.inside.index.entries ++ (c.self.inside.next, c.new-app.result) ∷ []) (ap held_at c.reserve-2.ensures.rest_kept) in
     let apps = ap apps_of entries ∙ apps_push (entries_at (held_at c.self.inside.apps) c.self.inside.index.entries) c.self.inside.next c.new-app.result ∙ ap (λ (a : App). apps_of (entries_at (held_at c.self.inside.apps) c.self.inside.index.entries) ++ a ∷ []) c.new-app.ensures.app in
     rw (← c.self.view_is) (ap (λ xs. record { active = xs; next = c.self.inside.next + 1 }) apps)
 
 pub returns-clause-accounts : goal.returns-clause-accounts
 returns-clause-accounts g c =
     let absent = next_absent 1 c.self.inside.next (entries_at (held_at c.self.inside.apps) c.self.inside.index.entries) c.self.invariant.numbered in
-    let entries = (entered c.insert_reserved.result c.in-Ok-new.app c.new-app.result c.reserve-2.new.self c.insert_reserved.new.self c.self.inside.index.entries c.insert.new.self.entries (grown c.self.invariant (ap held_at c.reserve-2.ensures.rest_kept) c.reserve.ensures.items c.reserve.ensures.capacity) (c.in-Ok-insert.ensures.entries ∙ ap (insert_entry nat_cmp c.self.inside.index.entries c.self.inside.next) (c.vacant_key.ensures.value ∙ sym c.insert_reserved.ensures.key)) c.insert_reserved.ensures.updates c.insert_reserved.ensures.was_vacant c.in-Ok-new.ensures.ok (ap (λ (a : App). a.number) c.new-app.ensures.app) (ap is_waiting c.new-app.ensures.app)).entries ∙ ap (λ held. entries_at held c.self.inside.index.entries ++ (c.self.inside.next, c.new-app.result) ∷ []) (ap held_at c.reserve-2.ensures.rest_kept) in
+    let entries = (entered c.insert_reserved.result c.in-Ok-new.app c.new-app.result c.reserve-2.new.self c.insert_reserved.new.self c.self.inside.index.entries c.insert.new.self.entries (grown c.self.invariant (ap held_at c.reserve-2.ensures.rest_kept) c.reserve.ensures.items c.reserve.ensures.capacity) (c.in-Ok-insert.ensures.entries ∙ ap (insert_entry nat_cmp c.self.inside.index.entries c.self.inside.next) (c.vacant_key.ensures.value ∙ sym c.insert_reserved.ensures.key)) c.insert_reserved.ensures.updates c.insert_reserved.ensures.was_vacant c.in-Ok-new.ensures.ok (ap (λ (a : App). a.number) c.new-app.ensures.app) (rw c.new-app.ensures.app tt) (ap is_waiting c.new-app.ensures.app)).entries ∙ ap (λ held. entries_at held c.self.inside.index.entries ++ (c.self.inside.next, c.new-app.result) ∷ []) (ap held_at c.reserve-2.ensures.rest_kept) in
     rw (← c.self.view_is) (account_entered c.self.inside.next c.args.position.items (entries_at (held_at c.self.inside.apps) c.self.inside.index.entries) _ c.new-app.result absent entries c.new-app.ensures.account)

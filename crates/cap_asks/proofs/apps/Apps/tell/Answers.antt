@@ -11,13 +11,13 @@ pub index_mut-requires : goal.index_mut-requires
 index_mut-requires g c = slot_taken c.self.inside.apps c.self.inside.index.entries c.args.n c.self.inside.next c.self.invariant.numbered c.in-Some.ensures.value
 
 pub invariant_of-self : goal.invariant_of-self
-invariant_of-self g c = (changed c.args.n (λ app. after_telling app.response c.args.ignored app) c.in-Some.field-0.now c.index_mut.result.now c.deref_mut-app.result.now c.tell.new.self c.self.inside.apps c.self.inside.index.entries c.self.invariant c.in-Some.ensures.value c.index_mut.ensures.value c.deref_mut-app.ensures.value c.tell.ensures.app (ap (λ (a : App). a.number) c.tell.ensures.app) c.tell.ensures.account refl refl).stays (ap is_waiting c.tell.ensures.app)
+invariant_of-self g c = (changed c.args.n (λ app. after_telling app.response c.args.ignored app) (λ app kept. kept) c.in-Some.field-0.now c.index_mut.result.now c.deref_mut-app.result.now c.tell.new.self c.self.inside.apps c.self.inside.index.entries c.self.invariant c.in-Some.ensures.value c.index_mut.ensures.value c.deref_mut-app.ensures.value c.tell.ensures.app (ap (λ (a : App). a.number) c.tell.ensures.app) c.tell.ensures.account refl refl).stays (ap is_waiting c.tell.ensures.app)
 
 pub returns-clause-table : goal.returns-clause-table
-returns-clause-table g c = rw (← c.self.view_is) (changed c.args.n (λ app. after_telling app.response c.args.ignored app) c.in-Some.field-0.now c.index_mut.result.now c.deref_mut-app.result.now c.tell.new.self c.self.inside.apps c.self.inside.index.entries c.self.invariant c.in-Some.ensures.value c.index_mut.ensures.value c.deref_mut-app.ensures.value c.tell.ensures.app (ap (λ (a : App). a.number) c.tell.ensures.app) c.tell.ensures.account refl refl).table
+returns-clause-table g c = rw (← c.self.view_is) (changed c.args.n (λ app. after_telling app.response c.args.ignored app) (λ app kept. kept) c.in-Some.field-0.now c.index_mut.result.now c.deref_mut-app.result.now c.tell.new.self c.self.inside.apps c.self.inside.index.entries c.self.invariant c.in-Some.ensures.value c.index_mut.ensures.value c.deref_mut-app.ensures.value c.tell.ensures.app (ap (λ (a : App). a.number) c.tell.ensures.app) c.tell.ensures.account refl refl).table
 
 pub returns-clause-accounts : goal.returns-clause-accounts
-returns-clause-accounts g c = rw (← c.self.view_is) (changed c.args.n (λ app. after_telling app.response c.args.ignored app) c.in-Some.field-0.now c.index_mut.result.now c.deref_mut-app.result.now c.tell.new.self c.self.inside.apps c.self.inside.index.entries c.self.invariant c.in-Some.ensures.value c.index_mut.ensures.value c.deref_mut-app.ensures.value c.tell.ensures.app (ap (λ (a : App). a.number) c.tell.ensures.app) c.tell.ensures.account refl refl).accounts
+returns-clause-accounts g c = rw (← c.self.view_is) (changed c.args.n (λ app. after_telling app.response c.args.ignored app) (λ app kept. kept) c.in-Some.field-0.now c.index_mut.result.now c.deref_mut-app.result.now c.tell.new.self c.self.inside.apps c.self.inside.index.entries c.self.invariant c.in-Some.ensures.value c.index_mut.ensures.value c.deref_mut-app.ensures.value c.tell.ensures.app (ap (λ (a : App). a.number) c.tell.ensures.app) c.tell.ensures.account refl refl).accounts
 
 pub returns-in_default-clause-told : goal.returns-in_default-clause-told
 returns-in_default-clause-told g c = λ there. missing_app 1 c.args.n c.self.inside.next (entries_at (held_at c.self.inside.apps) c.self.inside.index.entries) c.self.invariant.numbered (by_number c.args.n _ (looked_at (held_at c.self.inside.apps) c.args.n c.self.inside.index.entries c.in_default.ensures.value)) (rw (← c.self.view_is) at there)
@@ -27,5 +27,5 @@ returns-clause-told g c =
     let es = entries_at (held_at c.self.inside.apps) c.self.inside.index.entries in
     let found = (opened c.self.inside.apps c.self.inside.index.entries c.args.n c.in-Some.field-0.now c.index_mut.result.now c.deref_mut-app.result.now c.in-Some.ensures.value c.index_mut.ensures.value c.deref_mut-app.ensures.value) in
     let numbered = still_numbered 1 c.args.n c.self.inside.next es c.deref_mut-app.result.now c.tell.new.self c.self.invariant.numbered found (ap (λ (a : App). a.number) c.tell.ensures.app) in
-    let done = (changed c.args.n (λ app. after_telling app.response c.args.ignored app) c.in-Some.field-0.now c.index_mut.result.now c.deref_mut-app.result.now c.tell.new.self c.self.inside.apps c.self.inside.index.entries c.self.invariant c.in-Some.ensures.value c.index_mut.ensures.value c.deref_mut-app.ensures.value c.tell.ensures.app (ap (λ (a : App). a.number) c.tell.ensures.app) c.tell.ensures.account refl refl) in
+    let done = (changed c.args.n (λ app. after_telling app.response c.args.ignored app) (λ app kept. kept) c.in-Some.field-0.now c.index_mut.result.now c.deref_mut-app.result.now c.tell.new.self c.self.inside.apps c.self.inside.index.entries c.self.invariant c.in-Some.ensures.value c.index_mut.ensures.value c.deref_mut-app.ensures.value c.tell.ensures.app (ap (λ (a : App). a.number) c.tell.ensures.app) c.tell.ensures.account refl refl) in
     λ there. rw done.entries (kept_now 1 c.args.n c.self.inside.next (set_value (nat_eq c.args.n) es c.tell.new.self) c.tell.new.self c.tell.result numbered (found_after c.args.n es c.deref_mut-app.result.now c.tell.new.self found) c.tell.ensures.told)

@@ -1,4 +1,4 @@
-use Rattle.cap_session.proofs.Prelude.{◌∙◌, ◌++◌, ◌∷◌, [], List, ℕ, refl, ap, sym, subst, frame_of, SessionState, OpenRequest, MayAnswer, SpellsAnswer, PayloadLog, payloads_in, calls_in, IsOfKind, Inside}
+use Rattle.cap_session.proofs.Prelude.{◌≤◌, ◌+◌, kind_room, ◌∙◌, ◌++◌, ◌∷◌, [], List, ℕ, refl, ap, sym, subst, frame_of, SessionState, OpenRequest, MayAnswer, SpellsAnswer, PayloadLog, payloads_in, calls_in, IsOfKind, Inside}
 use Rattle.cap_session.proofs.Answering.{is_answer}
 use Rattle.cap_session.proofs.SessionSteps.{may_answer, opens_first, answers_it}
 use Rattle.cap_session.proofs.session.Session.answer.Goals as goal
@@ -25,7 +25,7 @@ invariant_of-self c =
     let opened = c.parts-opened.result.1 in
     (answers_it c.self.inside (after c) o reply opened c.and.result c.self.invariant (may_answer c.self.inside c.args.self.now c.args.reply.now c.self.view_is c.requires) c.in-Some.ensures.items (ap payloads_in has.one ∙ ap (λ (x : List ℕ). x ∷ []) (sym has.payload_is)) (ap (λ (l : PayloadLog). calls_in l ((reply, tt) ∷ [])) has.one) (spelled c) refl refl refl
     (c.and.ensures ∙ ap (λ x. x ++ (reply, tt) ∷ []) c.new.ensures) c.and-self-inside.ensures refl
-    (c.put_reply.ensures.appends ∙ ap (λ (x : List ℕ). c.self.inside.unsent.items ++ frame_of x) (is_answer o c.parts-opened.result.0.of_request c.parts-opened.result.0.kind reply has.head_is has.kind)) c.put_reply.ensures.spare).0
+    (c.put_reply.ensures.appends ∙ ap (λ (x : List ℕ). c.self.inside.unsent.items ++ frame_of x) (is_answer o c.parts-opened.result.0.of_request c.parts-opened.result.0.kind reply has.head_is has.kind)) (subst (λ (n : ℕ). c.self.inside.unsent.spare ≤ c.put_reply.new.unsent.spare + kind_room n) has.kind c.put_reply.ensures.spare)).0
 
 pub returns-clause-spells : goal.returns-clause-spells
 returns-clause-spells c =

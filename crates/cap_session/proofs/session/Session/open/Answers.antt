@@ -1,4 +1,4 @@
-use Rattle.cap_session.proofs.Prelude.{refl, sym, ap, ap₂, ◌∙◌, subst, [], ◌++◌, arith, length, List, All-nil, IsRead, History, IsReading, OpenRequest, open_payloads, nothing, answered_in, AnswerLog}
+use Rattle.cap_session.proofs.Prelude.{refl, sym, ap, ap₂, ◌∙◌, subst, [], ◌++◌, arith, List, All-nil, IsRead, History, IsReading, OpenRequest, open_payloads, rooms, nothing, answered_in, AnswerLog}
 use Rattle.cap_session.proofs.Reading.{nothing_read}
 use Rattle.cap_session.proofs.SessionSteps.{opens_are}
 use Rattle.cap_session.proofs.session.Session.open.Goals as goal
@@ -15,7 +15,7 @@ invariant_of-result c =
       given = ap (λ (h : History). h.given) c.in-Ok.ensures ∙ sym (ap₂ (λ (log : AnswerLog) (x : List OpenRequest). answered_in log ++ (open_payloads x ++ [])) c.new-5.ensures c.new-2.ensures.items);
       reading = subst IsReading (sym c.in-Ok.ensures) nothing_read;
       none_lost = λ _. refl;
-      room = omega (arith, ap (λ (x : List OpenRequest). length x) c.new-2.ensures.items);
+      room = omega (arith, ap rooms c.new-2.ensures.items);
       answers = rw (c.new-4.ensures.items, c.new-5.ensures, c.new-6.ensures) nothing;
       none_open = λ _. c.new-2.ensures.items;
     }
