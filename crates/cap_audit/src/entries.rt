@@ -142,12 +142,12 @@ fn grant(
 ) -> Result<(), Stop>
     ensures { OnOk result (Makes line.now cluster.old.flat cluster.new.flat) }
 {
-    let Some([number, app, priority, request, node, memory, vcores, gpus]) = numbers_in(rest)
-    else {
+    let Some(numbers) = numbers_in::<8>(rest) else {
         return Err(Stop::False(Why::NoLine));
     };
+    let [number, app, priority, request, node, memory, vcores, gpus] = numbers;
     let numbers = [app, priority, request, node, memory, vcores, gpus];
-    let Some(proposal) = proposal_of(ProposalKind::Grant, &numbers) else {
+    let Some(proposal) = proposal_of(ProposalKind::Grant, numbers) else {
         return Err(Stop::False(Why::NoLine));
     };
     commit(alloc, cluster, line, proposal, number)
@@ -162,10 +162,10 @@ fn reserve(
 ) -> Result<(), Stop>
     ensures { OnOk result (Makes line.now cluster.old.flat cluster.new.flat) }
 {
-    let Some(numbers) = numbers_in(rest) else {
+    let Some(numbers) = numbers_in::<7>(rest) else {
         return Err(Stop::False(Why::NoLine));
     };
-    let Some(proposal) = proposal_of(ProposalKind::Reserve, &numbers) else {
+    let Some(proposal) = proposal_of(ProposalKind::Reserve, numbers) else {
         return Err(Stop::False(Why::NoLine));
     };
     commit(alloc, cluster, line, proposal, 0)

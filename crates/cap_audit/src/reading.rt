@@ -42,8 +42,8 @@ pub(crate) fn numbers_in<const N: usize>(bytes: &[u8]) -> Option<[u64; N]> {
 }
 
 /// The proposal of these numbers: application, priority, request id and node, and MiB, vcores and GPUs.
-pub(crate) fn proposal_of(kind: ProposalKind, numbers: &[u64; 7]) -> Option<Proposal<RESOURCES>> {
-    let [app, priority, request, node, memory, vcores, gpus] = *numbers;
+pub(crate) fn proposal_of(kind: ProposalKind, numbers: [u64; 7]) -> Option<Proposal<RESOURCES>> {
+    let [app, priority, request, node, memory, vcores, gpus] = numbers;
     if priority > u64::from(u32::MAX) {
         return None;
     }
