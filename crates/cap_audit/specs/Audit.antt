@@ -96,6 +96,13 @@ StandsOn lines a = StandsAt lines a.place a.settings.items a.cluster
 abbrev pub PlaysLine : List ℕ → Auditor → Auditor → Type 0
 PlaysLine line old new = (lines : List (List ℕ)) → StandsOn lines old → StandsOn (lines ++ line ∷ []) new
 
+-- one more property line, where no cluster stands
+pub record Adds (property : List ℕ) (old new : Auditor) : Type 0 where
+  pub before : old.cluster ≡ None
+  pub cluster : new.cluster ≡ old.cluster
+  pub place : new.place ≡ old.place
+  pub text : new.settings.items ≡ old.settings.items ++ ended property
+
 -- the cluster that stood, or one that the settings opened now
 abbrev pub IsOpened : List ℕ → Option (ClusterState resources) → Flat resources → Type 0
 IsOpened text None now = IsOpenedBy text now

@@ -1,9 +1,9 @@
 -- What was read of an input, and what of it was played.
-use Rattle.std.specs.Prelude.{◌≡◌, ◌<◌, ℕ, List, ◌++◌, Option}
+use Rattle.std.specs.Prelude.{◌≡◌, ◌<◌, ℕ, ◌+◌, List, ◌++◌, Option}
 use Rattle.std.specs.Str.Lines.{lines, strip_carriage_return}
 use Rattle.std.specs.Io.KnownBytes.{Consumes, IsAtEnd}
 use Rattle.cap_session.specs.declared.counted.Counted.{Counted}
-use Rattle.cap_session.specs.Counted.{state_of, inner_of}
+use Rattle.cap_session.specs.Counted.{StreamState, state_of, inner_of}
 use Rattle.cap_audit.specs.declared.auditor.Auditor.{Auditor}
 use Rattle.cap_audit.specs.Audit.{StandsOn}
 
@@ -38,3 +38,7 @@ ForPlayed begun a P = (text : List ℕ) → IsPlayed text begun a → P text
 -- a line that was begun and then ended by a line feed
 abbrev pub whole_line : List ℕ → List ℕ → List ℕ
 whole_line begun last = strip_carriage_return (begun ++ last)
+
+-- after a read of these bytes
+abbrev pub after_bytes : StreamState → List ℕ → StreamState
+after_bytes s bytes = record s { reads = s.reads + 1; given = s.given ++ bytes }

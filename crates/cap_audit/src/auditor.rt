@@ -1,7 +1,6 @@
 //! An audit under way: the settings, the cluster that they open, and where it stands (`Auditor`).
-ghost use Rattle.std.specs.Prelude.{◌≡◌, ◌++◌, OnOk, IfOk, None, [], true, false, is_some};
-ghost use Rattle.cap_audit.specs.Audit.{Begins, Goes, IsOpenedBy, PlaysLine, StandsOn};
-ghost use Rattle.cap_journal.specs.Lines.{ended};
+ghost use Rattle.std.specs.Prelude.{◌≡◌, OnOk, IfOk, [], true, false, is_some};
+ghost use Rattle.cap_audit.specs.Audit.{Adds, Begins, Goes, IsOpenedBy, PlaysLine, StandsOn};
 
 use crate::counts::Counts;
 use crate::entries::follow;
@@ -74,11 +73,7 @@ impl Auditor {
 
     /// One more property line, which may stand before all epochs alone.
     fn add(&mut self, property: &[u8]) -> Result<(), Stop>
-        ensures before { OnOk result (self.old.cluster ≡ None) }
-        ensures added { OnOk result
-            (self.new.settings.items ≡ self.old.settings.items ++ ended property.now) }
-        ensures cluster { OnOk result (self.new.cluster ≡ self.old.cluster) }
-        ensures place { OnOk result (self.new.place ≡ self.old.place) }
+        ensures { OnOk result (Adds property.now self.old self.new) }
     {
         if self.cluster.is_some() {
             return Err(Stop::False(Why::LateProperty));

@@ -1,4 +1,5 @@
 //! Where an audit stands between two lines (`Place`).
+ghost use Rattle.std.specs.Prelude.{◌≡◌, false};
 
 /// Where an audit stands: how many epochs have begun, whether the last of them goes on, and how many entries it has.
 #[derive(Clone, Copy, Debug, PartialEq, Eq)]

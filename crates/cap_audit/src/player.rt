@@ -4,7 +4,7 @@ ghost use Rattle.std.specs.Str.Lines.{lines};
 ghost use Rattle.cap_text.specs.Pieces.{lacks};
 ghost use Rattle.cap_session.specs.Counted.{state_of, CanCount};
 ghost use Rattle.cap_audit.specs.Audit.{IsTrueFile, PlaysLine, StandsOn};
-ghost use Rattle.cap_audit.specs.Input.{ForPlayed, GaveWholeText, IsPlayed, whole_line};
+ghost use Rattle.cap_audit.specs.Input.{ForPlayed, GaveWholeText, HasEnded, IsPlayed, IsRead, after_bytes, whole_line};
 
 use crate::auditor::Auditor;
 use crate::stop::Stop;
@@ -56,17 +56,38 @@ fn play_all<R: Read>(
     let mut chunk = [0u8; CHUNK];
     let mut begun = Vec::new(alloc);
     for _reads in 0..READS_MAX {
-        let piece = match reader.read(&mut chunk) {
-            Got::Bytes(n) => &chunk[..n],
-            Got::End => return play_last(&begun, auditor),
-            Got::Quiet | Got::Fault => return Err(Stop::Input),
+        let piece = match read_piece(reader, &mut chunk) {
+            Ok(piece) => piece,
+            Err(stop) => return Err(stop),
         };
+        if piece.is_empty() {
+            return play_last(&begun, auditor);
+        }
         match play_piece(piece, &mut begun, auditor) {
             Ok(()) => {}
             Err(stop) => return Err(stop),
         }
     }
     Err(Stop::Input)
+}
+
+/// The next bytes of the input; none where it has ended.
+fn read_piece<'a, R: Read>(
+    reader: &mut Counted<R>,
+    chunk: &'a mut [u8; CHUNK],
+) -> Result<&'a [u8], Stop>
+    requires { CanCount (state_of reader.old) }
+    ensures read { IfOk result (λ piece. IsRead R.remaining reader.old reader.new piece.now) }
+    ensures ended { IfOk result (λ piece. length piece.now ≡ 0
+        → HasEnded R.remaining reader.old reader.new) }
+    ensures more { IfOk result (λ piece. 0 < length piece.now
+        → state_of reader.new ≡ after_bytes (state_of reader.old) piece.now) }
+{
+    match reader.read(chunk) {
+        Got::Bytes(n) => Ok(&chunk[..n]),
+        Got::End => Ok(&chunk[..0]),
+        Got::Quiet | Got::Fault => Err(Stop::Input),
+    }
 }
 
 /// Plays the lines that end in these bytes, the first with what was begun before, and keeps what is begun of the next.
@@ -109,11 +130,11 @@ fn play_last(line: &[u8], auditor: &mut Auditor) -> Result<(), Stop>
     requires { lacks 10 line.now ≡ true }
     ensures { OnOk result (ForPlayed line.now auditor.old (λ text. IsTrueFile (lines text))) }
 {
-    if !line.is_empty() {
-        match auditor.play(line) {
-            Ok(()) => {}
-            Err(stop) => return Err(stop),
-        }
+    if line.is_empty() {
+        return auditor.end();
     }
-    auditor.end()
+    match auditor.play(line) {
+        Ok(()) => auditor.end(),
+        Err(stop) => Err(stop),
+    }
 }
