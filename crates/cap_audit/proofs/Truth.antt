@@ -1,5 +1,6 @@
 -- Lines that are true, and one more.
-use Rattle.cap_audit.proofs.Prelude.{◌≡◌, ◌⊎◌, ℕ, List, [], ◌∷◌, ◌++◌, Option, None, Some, false, inl, inr, refl, sym, ap, ◌∙◌, subst, map, append_assoc, append-nil, flat_map-append, map-append, flat_map, resources, Run, Step, Flat, Event, ClusterState, ended, event_words, property_words, Adds, AreTrue, Begins, Enters, Goes, IsOpened, IsOpenedBy, IsTrueFile, Makes, Passes, PlaysLine, PlaysOn, Spells, StandsAt, StandsOn, settings_text, start, Auditor, Place}
+use Rattle.cap_model.specs.declared.event.Event.TheVariants as event
+use Rattle.cap_audit.proofs.Prelude.{Reply, ReplyWith, AllocateNumbers, Request, Replies, RepliesInFull, full_reply, call_words, ◌≡◌, ◌⊎◌, ℕ, List, [], ◌∷◌, ◌++◌, Option, None, Some, false, inl, inr, refl, sym, ap, ◌∙◌, subst, map, append_assoc, append-nil, flat_map-append, map-append, flat_map, resources, Run, Step, Flat, Event, ClusterState, ended, event_words, property_words, Adds, AreTrue, Begins, Enters, Goes, IsOpened, IsOpenedBy, IsTrueFile, Makes, Passes, PlaysLine, PlaysOn, Spells, StandsAt, StandsOn, settings_text, start, Auditor, Place}
 
 run_one : (events : List (Event resources)) (event : Event resources) (a b c : Flat resources) → Run a events b → Step b event c → Run a (events ++ event ∷ []) c
 run_one [] event a b c e step = (c, subst (λ (x : Flat resources). Step x event c) (sym e) step, refl)
@@ -83,8 +84,8 @@ some_same : {A : Type 0} (o : Option A) (x y : A) → o ≡ Some x → o ≡ Som
 some_same o x y e f = cc (e, f)
 
 -- an audit that went on by one line
-pub plays_line : (line : List ℕ) (a b c : Auditor) → Begins a b → Goes line b c → PlaysLine line a c
-plays_line line a b c is goes = λ lines stands.
+pub plays_line : (line : List ℕ) {a b c : Auditor} → Begins a b → Goes line b c → PlaysLine line a c
+plays_line line {a} {b} {c} is goes = λ lines stands.
     let at = begins lines a b stands is in
     let same = some_same b.cluster is.now goes.was is.stands goes.stood in
     let after = true_more lines line b.place c.place is.now.flat goes.now.flat at (subst (λ (x : ClusterState resources). PlaysOn line b.place c.place x.flat goes.now.flat) (sym same) goes.plays) in
@@ -109,9 +110,18 @@ add_at lines line property p q text more old new is none same place grown stands
       ),
     )
 
-pub adds_line : (line property : List ℕ) (a b : Auditor) → line ≡ property_words property → Adds property a b → PlaysLine line a b
-adds_line line property a b is adds = λ lines stands. add_at lines line property a.place b.place a.settings.items b.settings.items a.cluster b.cluster is adds.before adds.cluster adds.place adds.text stands
+pub adds_line : (line property : List ℕ) {a b : Auditor} → line ≡ property_words property → Adds property a b → PlaysLine line a b
+adds_line line property {a} {b} is adds = λ lines stands. add_at lines line property a.place b.place a.settings.items b.settings.items a.cluster b.cluster is adds.before adds.cluster adds.place adds.text stands
 
 -- the end of a file that ends in no epoch
 pub ends : (lines : List (List ℕ)) (a b : Auditor) → StandsOn lines a → Begins a b → b.place.inside ≡ false → IsTrueFile lines
 ends lines a b stands is outside = (b.place, is.now.flat, begins lines a b stands is, outside)
+
+-- a call that was made, and the line that spells it
+pub makes_call : (old new : Flat resources) (by : ℕ) (request : Request resources) (given : ReplyWith resources AllocateNumbers) (view : Reply resources) (line before words : List ℕ) →
+    RepliesInFull old request given new → view ≡ full_reply new given → before ≡ [] → words ≡ before ++ call_words by request view → line ≡ words → Makes line old new
+makes_call old new by request given view line before words replies is none put same = (
+  event.Call by request view,
+  same ∙ put ∙ ap (λ (b : List ℕ). b ++ call_words by request view) none,
+  subst (λ (r : Reply resources). Replies old request r new) (sym is) replies,
+)

@@ -114,18 +114,18 @@ impl Auditor {
     pub(crate) fn end(&mut self) -> Result<(), Stop>
         ensures { OnOk result (Begins self.old self.new × (self.new.place.inside ≡ false)) }
     {
+        self.lines = self.lines.saturating_add(1);
         match self.begin() {
             Ok(()) => {}
             Err(stop) => return Err(stop),
         }
         if self.place.inside {
-            self.lines = self.lines.saturating_add(1);
             return Err(Stop::False(Why::Unfinished));
         }
         Ok(())
     }
 
-    /// The number of the line that was played last.
+    /// The number of the line that was played last; at the end of the file one more.
     pub(crate) fn lines(&self) -> u64 {
         self.lines
     }

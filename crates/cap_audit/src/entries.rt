@@ -1,6 +1,6 @@
 //! One line played on the cluster (`follow`): an epoch that begins or ends, a call, a grant or a reservation.
-ghost use Rattle.std.specs.Prelude.{◌≡◌, OnOk, true};
-ghost use Rattle.cap_audit.specs.Audit.{Closes, Makes, Opens, PlaysOn};
+ghost use Rattle.std.specs.Prelude.{◌≡◌, IfOk, OnOk, true};
+ghost use Rattle.cap_audit.specs.Audit.{Closes, Enters, Makes, Opens, PlaysOn};
 
 use crate::place::Place;
 use crate::reading::{call_in, numbers_in, proposal_of};
@@ -28,18 +28,29 @@ pub(crate) fn follow(
     if line.starts_with(b"closed ") {
         return close_epoch(alloc, place, line);
     }
-    let Some(entries) = place.entries.checked_add(1) else {
-        return Err(Stop::False(Why::NoLine));
+    let after = match with_entry(*place) {
+        Ok(after) => after,
+        Err(stop) => return Err(stop),
     };
-    if !place.inside {
-        return Err(Stop::False(Why::NoEpoch));
-    }
     match enter(alloc, cluster, line) {
         Ok(()) => {
-            place.entries = entries;
+            *place = after;
             Ok(())
         }
         Err(stop) => Err(stop),
+    }
+}
+
+/// The place behind one more entry.
+fn with_entry(place: Place) -> Result<Place, Stop>
+    ensures { IfOk result (λ after. Enters place after) }
+{
+    if !place.inside {
+        return Err(Stop::False(Why::NoEpoch));
+    }
+    match place.entries.checked_add(1) {
+        Some(entries) => Ok(Place { entries, ..place }),
+        None => Err(Stop::False(Why::NoLine)),
     }
 }
 
