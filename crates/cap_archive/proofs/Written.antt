@@ -1,9 +1,10 @@
 -- Bytes that are written out in pieces.
-use Rattle.std.proofs.Common.{◌≡◌, ℕ, suc, List, [], ◌∷◌, ◌++◌, Option, Some, None, refl, ap, sym, ◌∙◌, subst, append_assoc, length}
-use Rattle.std.proofs.lemmas.List.{append-nil}
+use Rattle.std.proofs.Common.{◌≡◌, ◌≤◌, ◌<◌, ◌+◌, ℕ, suc, get_or, drop, List, [], ◌∷◌, ◌++◌, Option, Some, None, refl, ap, sym, ◌∙◌, subst, append_assoc, length}
+use Rattle.std.proofs.lemmas.List.{append-nil, drop_all, drop_more}
 use Rattle.std.specs.Io.KnownBytes.{Appends}
 use Rattle.std.specs.List.{flat_map}
-use Rattle.cap_journal.specs.Lines.{ended, event_words}
+use Rattle.std.specs.Prelude.{OnOk, Ok, Err, Result}
+use Rattle.cap_journal.specs.Lines.{closed_words, ended, epoch_text, epoch_words, event_words}
 use Rattle.cap_shared.specs.Journal.{events_in}
 use Rattle.cap_shared.specs.declared.entry.Entry.{Entry}
 use Rattle.cap_archive.specs.Archive.{Passes}
@@ -52,3 +53,34 @@ entries_text (e ∷ entries) = ap (λ (t : List ℕ). entry_text e ++ t) (entrie
 pub events_count : (entries : List Entry) → length (events_in entries) ≡ length entries
 events_count [] = refl
 events_count (e ∷ entries) = ap suc (events_count entries)
+
+rest_more : (journal : List Entry) (i : ℕ) (e : Entry) → i < length journal → e ≡ get_or journal i e → flat_map entry_text (drop i journal) ≡ entry_text e ++ flat_map entry_text (drop (i + 1) journal)
+rest_more journal i e lt is = ap (flat_map entry_text) (drop_more journal i e lt ∙ ap (λ (x : Entry). x ∷ drop (i + 1) journal) (sym is))
+
+-- one more entry was put, and maybe written
+pub passes_entry : (u v w : Option (List ℕ)) (journal : List Entry) (i : ℕ) (e : Entry) (all left mid last whole : List ℕ) → i < length journal → e ≡ get_or journal i e → Passes u v all left → all ++ flat_map entry_text (drop i journal) ≡ whole → mid ≡ left ++ entry_text e → Passes v w mid last →
+    (more : List ℕ) × Passes u w more last × (more ++ flat_map entry_text (drop (i + 1) journal) ≡ whole)
+passes_entry u v w journal i e all left mid last whole lt is p h put q = (
+  all ++ entry_text e,
+  passes_more u v w all left (entry_text e) mid last p put q,
+  append_assoc all (entry_text e) (flat_map entry_text (drop (i + 1) journal))
+  ∙ ap (λ (t : List ℕ). all ++ t) (sym (rest_more journal i e lt is))
+  ∙ h,
+)
+
+whole_epoch : (number : ℕ) (journal : List Entry) (all : List ℕ) → all ≡ ended (epoch_words number) ++ flat_map entry_text journal → all ++ ended (closed_words (length journal)) ≡ epoch_text number (events_in journal)
+whole_epoch number journal all e =
+    let words = ended (epoch_words number) in
+    ap (λ (t : List ℕ). t ++ ended (closed_words (length journal))) (e ∙ ap (λ (t : List ℕ). words ++ t) (entries_text journal))
+    ∙ ap (λ (n : ℕ). (words ++ flat_map (λ x. ended (event_words x)) (events_in journal)) ++ ended (closed_words n)) (sym (events_count journal))
+
+-- the last line was put, and all is written
+pub ends_epoch : (u v w : Option (List ℕ)) (number : ℕ) (journal : List Entry) (i : ℕ) (all left mid : List ℕ) → length journal ≤ i → Passes u v all left → all ++ flat_map entry_text (drop i journal) ≡ ended (epoch_words number) ++ flat_map entry_text journal → mid ≡ left ++ ended (closed_words (length journal)) → Appends v w mid →
+    Appends u w (epoch_text number (events_in journal))
+ends_epoch u v w number journal i all left mid past p h put a =
+    let over = sym (append-nil all) ∙ ap (λ (es : List Entry). all ++ flat_map entry_text es) (sym (drop_all i journal past)) ∙ h in
+    all_written u v w all left (ended (closed_words (length journal))) mid (epoch_text number (events_in journal)) p put a (whole_epoch number journal all over)
+
+pub on_ok : {X E : Type 0} {P Q : Type 0} → (r : Result X E) → OnOk r P → (P → Q) → OnOk r Q
+on_ok (Ok x) p f = f p
+on_ok (Err e) p f = tt
