@@ -31,19 +31,19 @@ passes_more u v w all left more mid last p e q = (
   p.0 ++ q.0,
   appends_then u v w p.0 q.0 p.1 q.1,
   append_assoc p.0 q.0 last
-  ∙ ap (λ (t : List ℕ). p.0 ++ t) (q.2 ∙ e)
-  ∙ sym (append_assoc p.0 left more)
-  ∙ ap (λ (t : List ℕ). t ++ more) p.2,
+      ∙ ap (λ (t : List ℕ). p.0 ++ t) (q.2 ∙ e)
+      ∙ sym (append_assoc p.0 left more)
+      ∙ ap (λ (t : List ℕ). t ++ more) p.2,
 )
 
 -- what is left was written too
 pub all_written : (u v w : Option (List ℕ)) (all left more mid whole : List ℕ) → Passes u v all left → mid ≡ left ++ more → Appends v w mid → all ++ more ≡ whole → Appends u w whole
 all_written u v w all left more mid whole p e a is =
     subst (Appends u w) (
-      ap (λ (t : List ℕ). p.0 ++ t) e
-      ∙ sym (append_assoc p.0 left more)
-      ∙ ap (λ (t : List ℕ). t ++ more) p.2
-      ∙ is
+    ap (λ (t : List ℕ). p.0 ++ t) e
+    ∙ sym (append_assoc p.0 left more)
+    ∙ ap (λ (t : List ℕ). t ++ more) p.2
+    ∙ is
     ) (appends_then u v w p.0 mid p.1 a)
 
 pub entries_text : (entries : List Entry) → flat_map entry_text entries ≡ flat_map (λ e. ended (event_words e)) (events_in entries)
@@ -64,8 +64,8 @@ passes_entry u v w journal i e all left mid last whole lt is p h put q = (
   all ++ entry_text e,
   passes_more u v w all left (entry_text e) mid last p put q,
   append_assoc all (entry_text e) (flat_map entry_text (drop (i + 1) journal))
-  ∙ ap (λ (t : List ℕ). all ++ t) (sym (rest_more journal i e lt is))
-  ∙ h,
+      ∙ ap (λ (t : List ℕ). all ++ t) (sym (rest_more journal i e lt is))
+      ∙ h,
 )
 
 whole_epoch : (number : ℕ) (journal : List Entry) (all : List ℕ) → all ≡ ended (epoch_words number) ++ flat_map entry_text journal → all ++ ended (closed_words (length journal)) ≡ epoch_text number (events_in journal)

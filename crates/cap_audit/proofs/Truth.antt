@@ -101,12 +101,12 @@ add_at lines line property p q text more old new is none same place grown stands
       (
         properties ++ property ∷ [],
         ap (λ (l : List (List ℕ)). l ++ line ∷ []) was.1.1
-        ∙ ap (λ (l : List ℕ). map property_words properties ++ l ∷ []) is
-        ∙ sym (map-append property_words properties (property ∷ [])),
+            ∙ ap (λ (l : List ℕ). map property_words properties ++ l ∷ []) is
+            ∙ sym (map-append property_words properties (property ∷ [])),
         grown
-        ∙ ap (λ (t : List ℕ). t ++ ended property) was.1.2
-        ∙ ap (λ (t : List ℕ). settings_text properties ++ t) (sym (append-nil (ended property)))
-        ∙ sym (flat_map-append ended properties (property ∷ [])),
+            ∙ ap (λ (t : List ℕ). t ++ ended property) was.1.2
+            ∙ ap (λ (t : List ℕ). settings_text properties ++ t) (sym (append-nil (ended property)))
+            ∙ sym (flat_map-append ended properties (property ∷ [])),
       ),
     )
 

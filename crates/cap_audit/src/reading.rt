@@ -21,7 +21,9 @@ fn number_of(digits: &[u8]) -> Option<u64> {
         if !digit.is_ascii_digit() {
             return None;
         }
-        number = number.checked_mul(10)?.checked_add(u64::from(*digit - b'0'))?;
+        number = number
+            .checked_mul(10)?
+            .checked_add(u64::from(*digit - b'0'))?;
     }
     Some(number)
 }
@@ -60,10 +62,7 @@ pub(crate) fn proposal_of(kind: ProposalKind, numbers: [u64; 7]) -> Option<Propo
 }
 
 /// The connection's number and the request of a call, by what follows its first word.
-pub(crate) fn call_in(
-    alloc: Global,
-    bytes: &[u8],
-) -> Result<(u32, Request<RESOURCES>), Stop> {
+pub(crate) fn call_in(alloc: Global, bytes: &[u8]) -> Result<(u32, Request<RESOURCES>), Stop> {
     let (Some(by), Some(request)) = (connection_in(bytes), digits_in(bytes)) else {
         return Err(Stop::False(Why::NoLine));
     };

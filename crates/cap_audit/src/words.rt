@@ -51,8 +51,7 @@ fn write_end<W: Write>(status: u8, words: &[u8], writer: &mut Counted<W>) -> u8
 /// How many epochs, entries, calls, grants and reservations a true file has.
 fn say_totals(alloc: Global, auditor: &Auditor) -> Result<String, AllocError> {
     let counts = auditor.counts();
-    format!(
-        in alloc;
+    format!(in alloc;
         "audited epochs={} entries={} calls={} grants={} reservations={}\n",
         auditor.epochs(),
         counts.entries(),

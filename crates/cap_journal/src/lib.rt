@@ -7,4 +7,6 @@ mod lines;
 mod words;
 
 pub use crate::fault::LineFault;
-pub use crate::lines::{HEAD, put_call, put_closed, put_epoch, put_event, put_grant, put_property, put_reserve};
+pub use crate::lines::{
+    HEAD, put_call, put_closed, put_epoch, put_event, put_grant, put_property, put_reserve,
+};

@@ -7,7 +7,9 @@ use crate::fault::LineFault;
 use crate::kinds::is_of_kind;
 use crate::words::{put_hex, put_numbers};
 use cap_base::RESOURCES;
-use cap_grammar::{Head, Out, REPLY_ROOM, REQUEST_ROOM, has_spelling, kind, write_reply, write_request};
+use cap_grammar::{
+    Head, Out, REPLY_ROOM, REQUEST_ROOM, has_spelling, kind, write_reply, write_request,
+};
 use cap_model::{Container, Event, ReplyView, Request, Reservation};
 use std::alloc::{AllocError, Global};
 
