@@ -4,6 +4,7 @@ ghost use Rattle.cap_session.specs.Counted.{state_of, CanCount};
 
 use crate::streams::explain_streams;
 use crate::texts::{check_settings, explain_lines, print};
+use cap_audit::audit;
 use cap_replay::replay_with_words;
 use cap_session::Counted;
 use clap::error::ErrorKind;
@@ -13,10 +14,10 @@ use std::convert::AsStr;
 use std::io::{Read, Write};
 
 /// Runs the program on the words of its command line, of which the first is its own name: `replay` plays a script, `check` looks at
-/// property lines, `explain` puts words under the lines of a script or of what `replay` printed. The result is the exit status: 0
-/// done; 1 a stream failed; 2 bad words, a bad line of a script or a fault of its settings; 3 an allocation failed. What was wrong is
-/// left in words in `complaint`, for the error stream: with status 2, and with status 1 the stream and the system's error. Help and
-/// the version are written to the writer.
+/// property lines, `explain` puts words under the lines of a script or of what `replay` printed, `audit` plays an audit file. The
+/// result is the exit status: 0 done; 1 a stream failed; 2 bad words, a bad line of a script, a fault of its settings or a false
+/// audit file; 3 an allocation failed. What was wrong is left in words in `complaint`, for the error stream: with status 2, but for
+/// an audit, and with status 1 the stream and the system's error. Help and the version are written to the writer.
 pub fn run<'a, S: AsStr, R: Read, W: Write>(
     alloc: Global,
     words: &'a [S],
@@ -40,7 +41,7 @@ pub fn run<'a, S: AsStr, R: Read, W: Write>(
     status
 }
 
-/// Does what the words say, which name one of the three commands. The result is the exit status, as of `run`.
+/// Does what the words say, which name one of the four commands. The result is the exit status, as of `run`.
 pub fn perform<R: Read, W: Write>(
     alloc: Global,
     matches: &ArgMatches<'_>,
@@ -56,6 +57,7 @@ pub fn perform<R: Read, W: Write>(
     match matches.subcommand() {
         Some(("check", _)) => check_settings(alloc, reader, writer, complaint),
         Some(("explain", _)) => explain_lines(alloc, reader, writer),
+        Some(("audit", _)) => audit(alloc, reader, writer),
         _ => replay_with_words(alloc, reader, writer, complaint),
     }
 }
@@ -74,7 +76,7 @@ pub fn explain_failure<R: Read, W: Write>(
     }
 }
 
-/// The command line of the program: the three commands, and between them one that a caller has besides.
+/// The command line of the program: the four commands, and between them one that a caller has besides.
 pub fn command_line<'a>(
     alloc: Global,
     besides: Option<Command<'a>>,
@@ -85,7 +87,8 @@ pub fn command_line<'a>(
     }
     command
         .subcommand(check_command(alloc))?
-        .subcommand(explain_command(alloc))
+        .subcommand(explain_command(alloc))?
+        .subcommand(audit_command(alloc))
 }
 
 /// The program, with none of its commands yet.
@@ -114,6 +117,13 @@ fn check_command<'a>(alloc: Global) -> Command<'a> {
 fn explain_command<'a>(alloc: Global) -> Command<'a> {
     Command::new(alloc, "explain").about(
         "Reads a script or what replay printed from standard input, and puts words under its lines",
+    )
+}
+
+/// The command `audit`.
+fn audit_command<'a>(alloc: Global) -> Command<'a> {
+    Command::new(alloc, "audit").about(
+        "Plays an audit file from standard input on one cluster, and says whether it is true",
     )
 }
 

@@ -1,4 +1,5 @@
-//! The commands that read standard input, print, and need no thread: `replay`, `check` and `explain`. Words in, exit status out (`run`).
+//! The commands that read standard input, print, and need no thread: `replay`, `check`, `explain` and `audit`. Words in, exit status
+//! out (`run`).
 #![tactic(auto)]
 
 mod commands;

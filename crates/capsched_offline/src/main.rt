@@ -1,4 +1,4 @@
-//! The program without its daemon: `replay`, `check` and `explain`. It takes no handle of the system but its streams.
+//! The program without its daemon: `replay`, `check`, `explain` and `audit`. It takes no handle of the system but its streams.
 #![tactic(auto)]
 
 use cap_commands::{Counted, run};

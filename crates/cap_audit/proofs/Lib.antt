@@ -1,0 +1,3 @@
+mod Prelude
+pub mod Truth
+pub mod Pieces
