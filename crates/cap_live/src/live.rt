@@ -1,5 +1,6 @@
 //! What a proposal looks at in a live cluster (`Live`).
-ghost use Rattle.std.specs.Prelude.{◌≡◌, ◌<◌};
+ghost use Rattle.std.specs.Prelude.{◌≡◌, ◌≤◌};
+ghost use Rattle.cap_base.specs.Limits.{resources_max};
 
 use cap_asks::App;
 use cap_commit::Cluster;
@@ -33,7 +34,8 @@ impl<'a, const K: usize> Model for Live<'a, K> {
 impl<'a, const K: usize> Live<'a, K> {
     /// The cluster, as a proposal sees it.
     pub(crate) fn new(cluster: &'a Cluster<K>) -> Live<'a, K>
-        ensures { result ≡ cluster.now }
+        ensures value { result ≡ cluster.now }
+        ensures resources { K ≤ resources_max }
     {
         cluster.nodes();
         Live { cluster }
@@ -145,7 +147,7 @@ impl<'a, const K: usize> Farm<K> for Live<'a, K> {
     }
 
     fn ask_count(&self, of: &'a App<K>) -> usize {
-        let _ = self.cluster;
+        self.cluster.nodes();
         of.asks().len()
     }
 

@@ -1,4 +1,4 @@
-use Rattle.cap_live.proofs.Prelude.{◌∙◌, ap, sym, subst, Option, Some, None, MatchOption, ClusterState, HasNoWaiter, HasWaiter, IsIn, IsNextWaiter, app_sight, path_at, waiting_at}
+use Rattle.cap_live.proofs.Prelude.{◌∙◌, ap, sym, subst, Option, Some, None, MatchOption, arith, ClusterState, HasNoWaiter, HasWaiter, IsIn, IsNextWaiter, app_sight, path_at, waiting_at}
 use Rattle.cap_live.proofs.Apps.{held_at, held_waits, no_next, some_next}
 use Rattle.cap_commit.proofs.Sizes.{tree_fits}
 use Rattle.cap_live.proofs.Sizes.{app_of_few, cluster_of_few}
@@ -12,7 +12,7 @@ next_served-requires g c =
     let t = c.tree-tree.ensures in
     let a = c.apps-apps.ensures in
     let waits = held_waits c.self.inside.cluster.now t.queues t.tied t.waiting c.apps-apps.result.now a.table a.accounts a.placed c.numbers_rise.ensures c.tree-tree.result.now t.rows c.args.last.now (subst (λ (s : ClusterState g.row.K). HasWaiter s c.args.last.now) (sym c.self.view_is) c.requires) in
-    (tree_fits _ c.self.invariant, rw (t.rows, c.position.ensures, c.number.ensures) waits)
+    (tree_fits _ c.self.invariant, (omega arith, rw (t.rows, c.position.ensures, c.number.ensures) waits))
 
 pub returns-in_default-clause-next : goal.returns-in_default-clause-next
 returns-in_default-clause-next g c =
