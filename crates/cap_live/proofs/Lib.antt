@@ -1,0 +1,7 @@
+pub mod Apps
+pub mod Asks
+pub mod Limits
+pub mod Nodes
+mod Prelude
+pub mod Sizes
+pub mod Tied

@@ -1,0 +1,62 @@
+-- The nodes of a cluster, as its sight shows them.
+use Rattle.cap_live.proofs.Prelude.{◌≡◌, ℕ, ◌+◌, ◌≤◌, ◌<◌, Bool, true, false, cond, ◌&&◌, List, map, length, Option, Some, None, refl, sym, ◌∙◌, ap, subst, arith, inl, inr, ◌==◌, All, find, option_map, slice_get, is_none, is_some, IsSome, IsTrue, ◌↔◌, cases_lt, same_Some, same_test, length-map, slice_get-map, find_mapped_at, of_each, of_map, found_by_number, IsRising, amounts_fit, fits_amounts, fits, Fits, less, Ask, takes_place, ClusterNode, Flat, NodeTable, Reservation, NodeSight, Sight, node_sight, seen_node, sight_of, Load, IsLoadIn, load_sight, IsIdle, IsReserved, IsTurn, IsUnfit, kind_by_room, node_after, ring_index, taken_as}
+
+module _ {K : ℕ} (flat : Flat K) where
+  pub count_is : length (sight_of flat).nodes ≡ length flat.nodes.present
+  count_is = length-map flat.nodes.present (node_sight flat)
+
+  pub within : (i : ℕ) (table : NodeTable) → table ≡ flat.nodes → i < length (sight_of flat).nodes → i < length table.present
+  within i table same lt = let n = count_is in let m = ap (λ (t : NodeTable). length t.present) same in omega (arith, lt, n, m)
+
+  -- the node at an index
+  pub load_at : (i : ℕ) (x : Load) (table : NodeTable) → table ≡ flat.nodes → slice_get table.present i ≡ Some x.node → IsLoadIn K table x → slice_get (sight_of flat).nodes i ≡ Some (load_sight x)
+  load_at i x table same at is =
+      let l = subst (λ t. IsLoadIn K t x) same is in
+      slice_get-map (node_sight flat) flat.nodes.present i
+      ∙ ap (option_map (node_sight flat)) (subst (λ (t : NodeTable). slice_get t.present i ≡ Some x.node) same at)
+      ∙ sym (λ k. Some (record { number = x.node.number; host = x.node.host; rack = x.node.rack; total = x.node.total; free = less x.node.total (l.held k); reservation = l.reservation k }))
+
+  pub nodes_whole : IsRising 1 (map (λ node. node.number) flat.nodes.present) flat.nodes.next_node → All (λ node. seen_node (sight_of flat) node.number ≡ Some node) (sight_of flat).nodes
+  nodes_whole rising =
+      of_each (λ (s : NodeSight). seen_node (sight_of flat) s.number ≡ Some s) (sight_of flat).nodes
+      (λ s m.
+      let x = of_map (node_sight flat) flat.nodes.present s m in
+      subst (λ (n : NodeSight). seen_node (sight_of flat) n.number ≡ Some n) (x.2)
+      (find_mapped_at (node_sight flat) (λ (n : NodeSight). n.number == (x.0).number) flat.nodes.present
+      ∙ ap (option_map (node_sight flat)) (found_by_number (λ (y : ClusterNode). y.number) 1 flat.nodes.present flat.nodes.next_node (x.0) rising (x.1))))
+
+-- whether one vector fits another, as the code tests it
+pub fit_is : (b : Bool) (v most : List ℕ) → (IsTrue b ↔ Fits v most) → b ≡ fits v most
+fit_is b v most e = same_test b (fits v most) (λ t. amounts_fit v most (e.0 t)) (λ t. e.1 (fits_amounts v most t))
+
+pub held_none : (o : Option Reservation) → is_some o ≡ false → o ≡ None
+held_none None e = refl
+held_none (Some r) e = absurd (cc e)
+
+-- the turns of a ring over which a loop passes
+module _ (P : NodeSight → Type 0) (nodes : List NodeSight) (first : ℕ) where
+  pub no_turn : (turn : ℕ) → turn ≤ length nodes → IsTurn P nodes first turn turn
+  no_turn turn le = record { later = omega arith; within = le; passed = λ t node from before at. absurd (omega (arith, from, before)) }
+
+  pub next_turn : (from turn index count : ℕ) (x : NodeSight) → turn < count → count ≡ length nodes → index ≡ ring_index first turn count → slice_get nodes index ≡ Some x → P x → IsTurn P nodes first from turn → IsTurn P nodes first from (turn + 1)
+  next_turn from turn index count x lt count_is index_is at holds t = record {
+    later = (let l = t.later in omega (arith, l));
+    within = omega (arith, lt, count_is);
+    passed = λ n node le before there. elim (cases_lt n turn) [
+      | inl early ↦ t.passed n node le early there
+      | inr late ↦
+          let same : turn ≡ n = omega (arith, before, late) in
+          subst P (same_Some x node (sym at ∙ ap (slice_get nodes) (index_is ∙ (λ i. ring_index first (same i) (count_is i))) ∙ there)) holds
+    ];
+  }
+
+  pub until : (from turn end : ℕ) → end ≤ turn → (from ≤ end → turn ≤ end) → from ≤ end → IsTurn P nodes first from turn → IsTurn P nodes first from end
+  until from turn end far near le t = subst (IsTurn P nodes first from) (let n = near le in omega (arith, far, n)) t
+
+-- a node that holds a reservation takes no ask
+pub unfit : (ask : Ask) (nodes : List NodeSight) (first from to : ℕ) → IsTurn IsReserved nodes first from to → IsTurn (IsUnfit ask) nodes first from to
+unfit ask nodes first from to t = record { later = t.later; within = t.within; passed = λ n node le lt at. by node.reservation node refl (t.passed n node le lt at) }
+  where
+    by : (o : Option Reservation) (node : NodeSight) → node.reservation ≡ o → IsSome o → taken_as node ask ≡ None
+    by None node e some = absurd (cc some)
+    by (Some r) node e some = ap (λ x. cond (is_none x && takes_place ask.place node) (kind_by_room node ask) None) e

@@ -1,0 +1,14 @@
+use Rattle.cap_live.proofs.Prelude.{◌∙◌, ap, sym, subst, length, map, All, App, AppTable, AreKept, ClusterNode, ClusterState, IsRising, NodeTable}
+use Rattle.cap_live.proofs.Asks.{all_by_key}
+use Rattle.cap_live.proofs.Nodes.{count_is, nodes_whole}
+use Rattle.cap_live.proofs.Sizes.{apps_of_few, cluster_of_few, nodes_of_few}
+use Rattle.cap_live.proofs.live.LiveFarm.node_count.Goals as goal
+
+pub returns-clause-whole : goal.returns-clause-whole
+returns-clause-whole g c =
+    let value = c.nodes-nodes.ensures.value ∙ ap (λ (s : ClusterState g.row.K). s.flat.nodes) c.self.view_is in
+    let table = c.apps.ensures.table ∙ ap (λ (s : ClusterState g.row.K). s.flat.apps) c.self.view_is in
+    record {
+      asks = all_by_key c.args.self.now.flat (subst (λ (t : AppTable). All (λ app. AreKept app.asks) t.active) table c.asks_rise.ensures);
+      nodes = nodes_whole c.args.self.now.flat (subst (λ (t : NodeTable). IsRising 1 (map (λ node. node.number) t.present) t.next_node) value c.numbers_rise.ensures.nodes);
+    }

@@ -1,0 +1,12 @@
+-- The applications of a cluster that wait.
+use Rattle.std.specs.Prelude.{◌≡◌, ℕ, Some, true}
+use Rattle.cap_model.specs.Flat.{app_at}
+use Rattle.cap_asks.specs.Accounts.{HeldApp}
+use Rattle.cap_asks.specs.Apps.{account_of, is_waiting}
+use Rattle.cap_commit.specs.ClusterState.{ClusterState}
+
+-- an active application of a cluster, with its account, that waits for containers
+pub record HasWaiter {K : ℕ} (cluster : ClusterState K) (held : HeldApp) : Type 0 where
+  pub found : app_at cluster.flat held.app.number ≡ Some held.app
+  pub account : account_of held.app.number cluster.accounts ≡ Some held.account
+  pub waits : is_waiting held.app ≡ true
