@@ -136,5 +136,5 @@ fn a_worker_that_follows_sees_all_entries(rt: HostRuntime) {
         Came::Nothing,
     ];
     let came = followed(&rt, rt.alloc());
-    assert!(rt; came.is_some_and(|came| came.as_slice() == want));
+    assert!(rt; came.is_some_and(|came| came.as_slice() == want.as_slice()));
 }
