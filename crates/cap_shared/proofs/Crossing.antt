@@ -33,6 +33,9 @@ use Rattle.cap_shared.proofs.closed.SeatReport.TheSendSync as report
 use Rattle.cap_shared.specs.declared.seat.Naming as naming
 use Rattle.cap_shared.specs.contracts.desk.Desk as Desk
 use Rattle.cap_shared.specs.contracts.desk.Desk.TheInside as inside
+use Rattle.cap_shared.proofs.news.News.TheSendSync as news
+use Rattle.cap_shared.specs.contracts.replica.Replica as Replica
+use Rattle.cap_shared.specs.contracts.replica.Replica.TheInside as replica
 use Rattle.cap_shared.specs.contracts.shared.Shared as Shared
 use Rattle.cap_shared.specs.contracts.shown.Shown as Shown
 use Rattle.cap_shared.specs.contracts.shown.ShownLast as ShownLast
@@ -105,3 +108,10 @@ module _ (J : RattleType) (epoch : naming.Ghosts J.Denot) where
         (search (crosses, sendable) depth 60),
         ((search (table.the_field_sync, mark.the_send, crosses, sendable) depth 60), ((search (crosses, sendable) depth 60), ((search (Desk-send, mutex.the_sync, crosses, sendable) depth 60), ((search (vec.the_sync, report.the_sync, crosses, sendable) depth 60), tt)))),
       ))
+
+  pub Replica-send : IsSend J → IsSend (Replica.the_row J epoch)
+  Replica-send s =
+      view_send (replica.the_row J epoch) _ _ _ _ (recorded_send (replica.the_field J epoch).row _ _ (replica.the_type J epoch).to_one (struct_send (shape (replica.the_type J epoch)) (
+        (search (crosses, sendable) depth 60),
+        ((search (Cluster-send, crosses, sendable) depth 60), ((search sendable), ((search (log.the_send, news.the_send, crosses, sendable) depth 60), ((search sendable), tt)))),
+      )))

@@ -1,4 +1,5 @@
 pub mod Calls
+pub mod Following
 pub mod Journal
 pub mod Laws
 pub mod Parts

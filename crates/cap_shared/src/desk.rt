@@ -8,6 +8,7 @@ ghost use Rattle.cap_copy.specs.Sources.{sight_of_copy};
 ghost use Rattle.cap_model.specs.Admission.{reason_of};
 ghost use Rattle.cap_commit.specs.Admission.{taken_back};
 ghost use Rattle.cap_shared.specs.Calls.{CallsOk, IsCalledOn, CallMisses, CommitAnswers, CommitsBack, CopyIs, TellsFull, TellsFullFirst};
+ghost use Rattle.cap_shared.specs.Following.{Follows, IsNews};
 
 use crate::call_room::{CallRoom, is_no_memory, make_call, own_copies};
 use crate::entry::{Entry, Receipt};
@@ -17,7 +18,9 @@ use crate::marks::{
     compare, enter, next_position, note_copied, note_no_memory, note_rejected, note_sealed_call,
     note_sealed_commit,
 };
+use crate::news::News;
 use crate::passes::{Pass, Word};
+use crate::replica::Replica;
 use crate::seat::{Naming, Seat};
 use crate::shown::{Shown, ShownLast};
 use bumpalo::Bump;
@@ -278,6 +281,27 @@ impl<J: Naming> Desk<J> {
         };
         note_copied(word, &mut self.pass, &self.journal, &mut seat.pass);
         Ok(copied)
+    }
+
+    /// What was entered since a replica looked last, with a note of a copy: the replica is to be the cluster as it is now. If an allocation
+    /// fails nothing changes.
+    pub fn news(
+        &mut self,
+        alloc: Global,
+        word: &Word,
+        seat: &mut Seat<J>,
+        replica: &Replica<J>,
+    ) -> Result<News, NoMemory>
+        requires word { (word.now.table_id ≡ J.table) × (0 < word.now.table_id.words) }
+        requires follows { Follows replica.now.log seat.old.past }
+        ensures { MatchResult result (IsNews J.opening replica.now.log seat.old seat.new)
+            (λ _. seat.new ≡ seat.old) }
+    {
+        let Ok(news) = News::after(alloc, &self.journal, replica.followed()) else {
+            return Err(NoMemory);
+        };
+        note_copied(word, &mut self.pass, &self.journal, &mut seat.pass);
+        Ok(news)
     }
 
     /// The last snapshot that was shown, where it shows the cluster as it is, which is noted. Else nothing changes.

@@ -4,6 +4,7 @@ ghost use Rattle.std.specs.Arc.{arc_value};
 ghost use Rattle.cap_base.specs.Limits.{resources};
 ghost use Rattle.cap_copy.specs.Snapshot.{sight_in};
 ghost use Rattle.cap_copy.specs.Sources.{sight_of_copy};
+ghost use Rattle.cap_shared.specs.Following.{Follows, IsNews};
 ghost use Rattle.cap_shared.specs.Calls.{CallsOk, IsCalled, CallsBack, CallMisses, CommitAnswers, CommitsBack, CopyIs};
 ghost use Rattle.cap_shared.specs.Journal.{Replays, TagsBelow, AllHonest};
 ghost use Rattle.cap_shared.specs.Parts.{report_of};
@@ -15,7 +16,9 @@ use crate::desk::Desk;
 use crate::entry::Entry;
 use crate::faults::{CallFault, CommitFault, Fault};
 use crate::history::{Mark, View};
+use crate::news::News;
 use crate::passes::{Pass, Word};
+use crate::replica::Replica;
 use crate::seat::{Naming, Seat};
 use crate::shown::Shown;
 use crate::turnstile::{Place, Turnstile};
@@ -126,6 +129,16 @@ impl<'a, J: Naming> Hold<'a, J> {
             (λ _. seat.new ≡ seat.old) }
     {
         self.desk.copy(arena, self.word, seat)
+    }
+
+    /// What was entered since a replica of this thread looked last, with a note of a copy: once it has caught up, which takes no lock, the
+    /// replica is the cluster as it was then. The replica follows the journal of this seat. If an allocation fails nothing changes.
+    pub fn news(&mut self, seat: &mut Seat<J>, replica: &Replica<J>) -> Result<News, NoMemory>
+        requires { Follows replica.now.log seat.old.past }
+        ensures { MatchResult result (IsNews J.opening replica.now.log seat.old seat.new)
+            (λ _. seat.new ≡ seat.old) }
+    {
+        self.desk.news(self.alloc, self.word, seat, replica)
     }
 
     /// The last snapshot that was shown, where it shows the cluster as it is. Else there is none, and nothing changes.

@@ -5,3 +5,4 @@ mod Streams
 mod Rounds
 mod Together
 mod Turning
+mod Following

@@ -1,3 +1,4 @@
 pub mod Worker
 pub mod Sessions
 pub mod Batches
+pub mod Following

@@ -3,6 +3,7 @@
 
 mod batches;
 mod coordinator;
+mod follower;
 mod gate;
 mod pause;
 mod scheduling;
@@ -11,6 +12,7 @@ mod worker;
 
 pub use cap_lanes::{Committer, Ended, LanesClosed, PutFault, Putter, lanes};
 pub use coordinator::Coordinator;
+pub use follower::Follower;
 pub use gate::{CommitOutcome, Gate, OpenGate, Point, Tally};
 pub use scheduling::{StopSignal, commit_all, schedule, schedule_by_lane};
 pub use sessions::{EndCause, SessionEnd, serve_session};

@@ -442,7 +442,7 @@ fn seen_beside<'a, J: Naming>(held: &Hold<'_, J>, coordinator: &'a Coordinator) 
 }
 
 /// What a worker proposes on a snapshot. It has no shared cluster here, so that it can hold none.
-fn propose_on<const K: usize, B: Allocator + Copy, G: Gate>(
+pub(crate) fn propose_on<const K: usize, B: Allocator + Copy, G: Gate>(
     snapshot: &Snapshot<K, B>,
     gate: &G,
     worker: u32,

@@ -35,7 +35,7 @@ pub(crate) fn answer_all(
                 let Ok(room) = CallRoom::of(alloc, cluster, &request, events) else {
                     return Standing::Starved;
                 };
-                perform(alloc, by, &request, room, session, cluster, events);
+                perform(alloc, by, request, room, session, cluster, events);
             }
             Next::Need => return Standing::Open,
             Next::Ended(cause) => return standing_after(cause),
@@ -88,24 +88,24 @@ fn standing_after(cause: SessionCause) -> Standing
 fn perform(
     alloc: Global,
     by: u32,
-    request: &Request<RESOURCES>,
+    request: Request<RESOURCES>,
     room: CallRoom,
     session: &mut Session,
     cluster: &mut Cluster<RESOURCES>,
     events: &mut Vec<Event<RESOURCES>>,
 )
-    requires open { IsOpenFor request.now session.old.opens }
+    requires open { IsOpenFor request session.old.opens }
     requires room { vec_len events.old < vec_capacity events.old }
-    requires request { room.request ≡ request.now }
-    requires reply { HasRoomForReplies cluster.old.flat request.now room.reply }
+    requires request { room.request ≡ request }
+    requires reply { HasRoomForReplies cluster.old.flat request room.reply }
     ensures performed { (reply : Reply resources)
-        × Replies cluster.old.flat request.now reply cluster.new.flat
+        × Replies cluster.old.flat request reply cluster.new.flat
         × (session.new ≡ after_answer session.old reply)
         × SpellsAnswer session.old.opens reply
-        × (events.new.items ≡ events.old.items ++ call_event by request.now reply ∷ []) }
+        × (events.new.items ≡ events.old.items ++ call_event by request reply ∷ []) }
     ensures less { bytes_unanswered session.new < bytes_unanswered session.old }
 {
-    let given = dispatch(alloc, cluster, request);
+    let given = dispatch(alloc, cluster, &request);
     let reply = room.reply.own(&cluster.view(&given));
     session.answer(&reply);
     let request = room.request;

@@ -2,6 +2,7 @@
 mod crowd;
 mod ending;
 mod epochs;
+mod following;
 mod in_step;
 mod offering;
 mod resting;

@@ -24,7 +24,7 @@ pub enum Came {
     Points(u64),
 }
 
-fn came_of(turn: &Turn) -> Came {
+pub fn came_of(turn: &Turn) -> Came {
     if !turn.reset {
         return Came::Spent;
     }

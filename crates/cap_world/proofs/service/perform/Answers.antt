@@ -13,4 +13,4 @@ pub answer-requires : goal.answer-requires
 answer-requires c =
     let given = full_reply c.dispatch-given.new.cluster.flat c.dispatch-given.result in
     let same : c.own-reply.result ≡ given = c.own-reply.ensures ∙ c.view.ensures in
-    may_answer c.args.request.now c.args.session.now.opens c.own-reply.result c.requires.open (subst (λ (r : Reply resources). IsOfKind (kind_of c.args.request.now) r) (sym same) c.dispatch-given.ensures.kind)
+    may_answer c.args.request c.args.session.now.opens c.own-reply.result c.requires.open (subst (λ (r : Reply resources). IsOfKind (kind_of c.args.request) r) (sym same) c.dispatch-given.ensures.kind)
