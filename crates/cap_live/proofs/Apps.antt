@@ -1,5 +1,5 @@
 -- The applications that a table gives for a number.
-use Rattle.cap_live.proofs.Prelude.{◌≡◌, ℕ, ◌≤◌, Bool, true, false, ◌&&◌, List, [], ◌∷◌, map, length, Option, Some, None, refl, sym, ◌∙◌, ap, subst, arith, nat_tests, not, ◌==◌, find, option_map, IfSome, MatchOption, IsSome, and_from, and_parts, eqb-true, nil_from_length, same_Some, found, IsIn, IsRising, found_by_number, seen_is, Account, HeldApp, account_of, is_waiting, App, AppTable, AppSight, Ask, Key, app_at, app_in, ask_at, app_sight, seen_app, sight_of, HasWaiter, ClusterState, HasNoNextApp, IsNextApp, Bor, All, each_of, waiting_at, option_map_or, HeldApps, position_of, IsRowOf, IsWaitedAt, IsAt, Row, queues_of, HasNoWaiter, IsNextWaiter}
+use Rattle.cap_live.proofs.Prelude.{◌≡◌, ℕ, true, false, ◌&&◌, List, [], ◌∷◌, map, length, Option, Some, None, refl, sym, ◌∙◌, ap, subst, arith, nat_tests, not, ◌==◌, find, option_map, IfSome, MatchOption, IsSome, eqb-true, same_Some, found, IsIn, IsRising, found_by_number, seen_is, Account, HeldApp, account_of, is_waiting, App, AppTable, AppSight, Ask, Key, app_in, ask_at, app_sight, seen_app, sight_of, HasWaiter, ClusterState, HasNoNextApp, IsNextApp, Bor, All, each_of, waiting_at, option_map_or, HeldApps, position_of, IsRowOf, IsWaitedAt, IsAt, Row, queues_of, HasNoWaiter, IsNextWaiter}
 use Rattle.cap_live.proofs.Tied.{AreSame, next_is, none_is, seen_waiter, waits_there}
 
 module _ {K : ℕ} (c : ClusterState K) (rising : IsRising 1 (map (λ app. app.number) c.flat.apps.active) c.flat.apps.next) where

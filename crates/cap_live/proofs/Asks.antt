@@ -1,5 +1,5 @@
 -- The asks of an application, by their keys.
-use Rattle.cap_live.proofs.Prelude.{◌≡◌, ℕ, zero, suc, ◌+◌, ◌-◌, ◌≤◌, ◌<◌, Bool, true, false, cond, List, [], ◌∷◌, map, length, Option, Some, None, refl, sym, ◌∙◌, ap, subst, arith, inl, inr, nat_tests, ◌==◌, All, filter, find, option_map, slice_get, IsSome, cases_lt, same_Some, slice_get-map, slice_get_within, each_of, found, of_each, of_filter, of_map, value_of, eqb-true, sum_by_map, IsIn, IsRising, sum_by, count_by, holds_of, nodes_on, on_nodes, before_not_same, AreAfter, AreKept, is_before, is_lt, Ordering, Less, Equal, Greater, Ask, Key, ask_key_cmp, same_key, same_key_is, same_key_itself, AreApart, App, ClusterNode, Flat, Reservation, ask_at, is_for, node_in, reservation_on, AppSight, NodeSight, app_sight, node_sight, sight_of, still_wanted, AreByKey}
+use Rattle.cap_live.proofs.Prelude.{◌≡◌, ℕ, zero, suc, ◌+◌, ◌-◌, ◌<◌, true, false, cond, List, [], ◌∷◌, map, length, Some, None, refl, sym, ◌∙◌, ap, subst, arith, inl, inr, ◌==◌, All, filter, slice_get, IsSome, cases_lt, same_Some, each_of, found, of_each, of_filter, of_map, value_of, eqb-true, sum_by_map, IsIn, IsRising, count_by, holds_of, nodes_on, on_nodes, before_not_same, AreAfter, AreKept, is_before, is_lt, Ordering, Less, Equal, Greater, Ask, Key, ask_key_cmp, same_key, same_key_is, same_key_itself, AreApart, App, ClusterNode, Flat, Reservation, ask_at, is_for, node_in, reservation_on, AppSight, NodeSight, app_sight, node_sight, sight_of, still_wanted, AreByKey}
 
 -- a key before another is not it, and is less
 less_of : (o : Ordering) → is_lt o ≡ true → o ≡ Less

@@ -1,5 +1,5 @@
 -- The limits of an application's queues and user, as the tree tests them and as the sight has them.
-use Rattle.cap_live.proofs.Prelude.{◌≡◌, ℕ, Bool, true, false, cond, ◌&&◌, List, map, Option, Some, None, refl, sym, ◌∙◌, ap, subst, arith, All, filter, find, option_map, option_map_or, is_none, is_some, not, list_all, list_all-map, bytes_eq, each_of, filter_mapped, find_mapped_at, same_test, amounts_fit, fits_amounts, holds_of, fits, times, fits_maximum, fits_user_limit, amount, amounts_exchanged, amount-exchanged, is_under, QueueRow, App, Flat, QueueSight, app_sight, queue_sight, queues_to, seen_queue, sight_of, user_use, IsRowOf, Measure, Queue, stays_in_maximum, stays_in_user_limit, use_of, user_row, user_counts, AreRows, IsAt, Row, queues_of, rows_to, settings_of_row, first_failing, item_at, path_at, along_rows, none_fails, found_row, row_at, over_limit, in_limits}
+use Rattle.cap_live.proofs.Prelude.{◌≡◌, ℕ, Bool, true, false, cond, ◌&&◌, List, map, Option, Some, None, refl, sym, ◌∙◌, ap, arith, All, filter, find, option_map, option_map_or, is_none, is_some, not, list_all, list_all-map, bytes_eq, each_of, filter_mapped, find_mapped_at, same_test, amounts_fit, fits_amounts, holds_of, fits, times, fits_maximum, fits_user_limit, amount, amounts_exchanged, amount-exchanged, is_under, QueueRow, App, Flat, QueueSight, app_sight, queue_sight, queues_to, seen_queue, sight_of, user_use, IsRowOf, Measure, stays_in_maximum, stays_in_user_limit, use_of, user_row, user_counts, AreRows, IsAt, Row, queues_of, rows_to, first_failing, item_at, path_at, along_rows, none_fails, found_row, row_at, over_limit, in_limits}
 use Rattle.cap_tree.specs.declared.over_limit.OverLimit.TheVariants.{Maximum, User}
 use Rattle.cap_live.proofs.Tied.{queues_are, seen_row}
 

@@ -1,5 +1,5 @@
 -- The nodes of a cluster, as its sight shows them.
-use Rattle.cap_live.proofs.Prelude.{◌≡◌, ℕ, ◌+◌, ◌≤◌, ◌<◌, Bool, true, false, cond, ◌&&◌, List, map, length, Option, Some, None, refl, sym, ◌∙◌, ap, subst, arith, inl, inr, ◌==◌, All, find, option_map, slice_get, is_none, is_some, IsSome, IsTrue, ◌↔◌, cases_lt, same_Some, same_test, length-map, slice_get-map, find_mapped_at, of_each, of_map, found_by_number, IsRising, amounts_fit, fits_amounts, fits, Fits, less, Ask, takes_place, ClusterNode, Flat, NodeTable, Reservation, NodeSight, Sight, node_sight, seen_node, sight_of, Load, IsLoadIn, load_sight, IsIdle, IsReserved, IsTurn, IsUnfit, kind_by_room, node_after, ring_index, taken_as}
+use Rattle.cap_live.proofs.Prelude.{◌≡◌, ℕ, ◌+◌, ◌≤◌, ◌<◌, Bool, false, cond, ◌&&◌, List, map, length, Option, Some, None, refl, sym, ◌∙◌, ap, subst, arith, inl, inr, ◌==◌, All, option_map, slice_get, is_none, is_some, IsSome, IsTrue, ◌↔◌, cases_lt, same_Some, same_test, length-map, slice_get-map, find_mapped_at, of_each, of_map, found_by_number, IsRising, amounts_fit, fits_amounts, fits, Fits, less, Ask, takes_place, ClusterNode, Flat, NodeTable, Reservation, NodeSight, node_sight, seen_node, sight_of, Load, IsLoadIn, load_sight, IsReserved, IsTurn, IsUnfit, kind_by_room, ring_index, taken_as}
 
 module _ {K : ℕ} (flat : Flat K) where
   pub count_is : length (sight_of flat).nodes ≡ length flat.nodes.present

@@ -1,5 +1,5 @@
 -- What a proposal looks at is no larger than memory, where there are not too many kinds of resource.
-use Rattle.cap_live.proofs.Prelude.{ℕ, ◌≤◌, ◌<◌, arith, FitsInMemory, resources_max, fits_by_most}
+use Rattle.cap_live.proofs.Prelude.{ℕ, ◌≤◌, arith, FitsInMemory, resources_max, fits_by_most}
 use denote.Param.{layout, number, param}
 use Rattle.cap_vector.specs.contracts.vector.Amounts as amounts
 use Rattle.cap_model.specs.contracts.ask.Ask as ask

@@ -1,5 +1,5 @@
 -- The queues of a sight are the rows of the tree, and what waits in the tree are the applications that wait.
-use Rattle.cap_live.proofs.Prelude.{◌≡◌, ℕ, ◌≤◌, Bool, true, false, ◌&&◌, List, [], map, drop, length, Option, Some, None, refl, sym, ◌∙◌, ap, subst, arith, nat_tests, not, ◌==◌, All, filter, find, option_map, option_map_or, is_gt, nat_cmp, ordering_then, slice_cmp, bytes_eq, bytes_eq-Decides, and_from, and_parts, same_Some, drop-map, filter_mapped, find_mapped_at, map_same, map_twice, each_of, found, in_filter, in_map, of_filter, of_map, IsIn, IsRising, found_by_number, rising_kept, level_cmp, is_under, level_of, App, Flat, AppSight, QueueSight, Sight, app_sight, queue_sight, sight_of, user_use, IsRowOf, IsWaitedAt, numbers_of, waits_where, is_waiting, Queue, HoldsOfItem, IsAt, Row, queues_of, rows_to, settings_of_row, level_of_row, levels_at, item_at, path_at, at_position, row_at, HasNoWaiter, IsLaterWaiter, IsNextWaiter, waiter_cmp, waiting_at, HasNoNextApp, IsLater, IsNextApp, IsWaiter, app_cmp, levels_to}
+use Rattle.cap_live.proofs.Prelude.{◌≡◌, ℕ, ◌≤◌, true, false, List, [], map, drop, length, Option, Some, None, refl, sym, ◌∙◌, ap, subst, arith, nat_tests, not, ◌==◌, All, filter, option_map, option_map_or, is_gt, nat_cmp, ordering_then, slice_cmp, bytes_eq, bytes_eq-Decides, and_from, and_parts, same_Some, drop-map, filter_mapped, find_mapped_at, map_same, map_twice, each_of, found, in_filter, in_map, of_filter, of_map, IsIn, IsRising, found_by_number, rising_kept, level_cmp, is_under, level_of, App, Flat, AppSight, QueueSight, app_sight, queue_sight, sight_of, user_use, IsRowOf, IsWaitedAt, numbers_of, waits_where, is_waiting, Queue, HoldsOfItem, IsAt, Row, queues_of, rows_to, settings_of_row, level_of_row, levels_at, item_at, path_at, at_position, row_at, HasNoWaiter, IsLaterWaiter, IsNextWaiter, waiter_cmp, waiting_at, HasNoNextApp, IsLater, IsNextApp, IsWaiter, app_cmp, levels_to}
 
 -- what waits at a position is an application that waits in the leaf there
 pub record WaitsAt (active : List App) (rows : List Row) (p : List ℕ) (n : ℕ) : Type 0 where

@@ -4,7 +4,6 @@ ghost use Rattle.cap_model.specs.Candidates.{choice_from};
 ghost use Rattle.cap_model.specs.Sight.{sight_of};
 
 use crate::live::Live;
-use cap_choice::propose_on;
 use cap_commit::Cluster;
 use cap_model::Proposal;
 
@@ -14,5 +13,5 @@ use cap_model::Proposal;
 pub fn propose_live<const K: usize>(cluster: &Cluster<K>, start: u32) -> Option<Proposal<K>>
     ensures { result ≡ choice_from (sight_of cluster.now.flat) start }
 {
-    propose_on(&Live::new(cluster), start)
+    Live::new(cluster).propose(start)
 }

@@ -1,11 +1,13 @@
 //! What a proposal looks at in a live cluster (`Live`).
-ghost use Rattle.std.specs.Prelude.{◌≡◌, ◌≤◌};
-ghost use Rattle.cap_base.specs.Limits.{resources_max};
+ghost use Rattle.std.specs.Prelude.{◌≡◌};
+ghost use Rattle.cap_model.specs.Candidates.{choice_from};
+ghost use Rattle.cap_model.specs.Sight.{sight_of};
 
 use cap_asks::App;
+use cap_choice::propose_on;
 use cap_commit::Cluster;
 use cap_farm::{Farm, wrapped};
-use cap_model::{Ask, Key, Reservation, ShortText, takes_place};
+use cap_model::{Ask, Key, Proposal, Reservation, ShortText, takes_place};
 use cap_vector::{Resource, fits};
 use std::marker::Model;
 
@@ -17,14 +19,13 @@ pub(crate) struct Live<'a, const K: usize> {
 
 impl<'a, const K: usize> Model for Live<'a, K> {
     ghost use Rattle.std.specs.Prelude.{◌≤◌};
-    ghost use Rattle.std.specs.Coded.{codes};
     ghost use Rattle.cap_base.specs.Limits.{resources_max};
-    ghost use Rattle.cap_tree.specs.Queue.{users_code};
     ghost use Rattle.cap_commit.specs.ClusterState.{ClusterState};
+    ghost use Rattle.cap_live.specs.Codes.{cluster_code};
 
     ghost Value = { ClusterState K };
 
-    ghost coded = { Prim.hlevel (codes, users_code) };
+    ghost coded = { cluster_code K };
 
     ghost view = { λ live. live.cluster.now };
 
@@ -34,11 +35,18 @@ impl<'a, const K: usize> Model for Live<'a, K> {
 impl<'a, const K: usize> Live<'a, K> {
     /// The cluster, as a proposal sees it.
     pub(crate) fn new(cluster: &'a Cluster<K>) -> Live<'a, K>
-        ensures value { result ≡ cluster.now }
-        ensures resources { K ≤ resources_max }
+        ensures { result ≡ cluster.now }
     {
         cluster.nodes();
         Live { cluster }
+    }
+
+    /// What is proposed on it, with the nodes as a ring from the node at `start` on.
+    pub(crate) fn propose(&self, start: u32) -> Option<Proposal<K>>
+        ensures { result ≡ choice_from (sight_of self.now.flat) start }
+    {
+        self.cluster.nodes();
+        propose_on(self, start)
     }
 }
 

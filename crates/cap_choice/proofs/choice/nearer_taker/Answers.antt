@@ -62,4 +62,4 @@ loop-index-preserved g c =
 pub first_taker-requires : goal.first_taker-requires
 first_taker-requires g c =
     let is = offer_at (g.F.Farm.sight c.args.farm.now) (g.F.Farm.shown c.args.farm.now c.args.app) c.loop-index.index c.ask-ask.result.now c.requires.waits.found c.ask-ask.ensures in
-    (c.requires.fits.ask, (c.requires.fits, (c.requires.whole, (c.requires.count, (c.requires.first, (c.next_fit-begin.ensures, (omega (arith, c.loop-index.invariant.within, c.requires.count), is)))))))
+    (c.requires.fits.1, (c.requires.fits, (c.requires.whole, (c.requires.count, (c.requires.first, (c.next_fit-begin.ensures, (omega (arith, c.loop-index.invariant.within, c.requires.count), is)))))))

@@ -1,6 +1,5 @@
-use Rattle.cap_live.proofs.Prelude.{◌∙◌, ap, sym, subst, map, Some, None, App, AppTable, ClusterState, IsRising, account_of, app_in}
+use Rattle.cap_live.proofs.Prelude.{◌∙◌, ap, sym, subst, map, Some, None, AppTable, IsRising, account_of, app_in}
 use Rattle.cap_live.proofs.Apps.{has_waiter, none_of, seen_of}
-use Rattle.cap_live.proofs.Sizes.{app_of_few, apps_of_few, cluster_of_few}
 use Rattle.cap_live.proofs.live.LiveFarm.app_of.Goals as goal
 
 pub returns-in_default-clause-none : goal.returns-in_default-clause-none

@@ -1,6 +1,5 @@
-use Rattle.cap_live.proofs.Prelude.{◌∙◌, ◌≡◌, ◌+◌, ◌<◌, ap, sym, subst, refl, arith, length, Some, slice_get, slice_get_read, slice_get_within, Ask, Key, same_key}
+use Rattle.cap_live.proofs.Prelude.{◌∙◌, ◌≡◌, ap, sym, subst, refl, arith, length, Some, slice_get, slice_get_read, slice_get_within, Key, same_key}
 use Rattle.cap_live.proofs.Asks.{key_here, none_before, one_more}
-use Rattle.cap_live.proofs.Sizes.{app_of_few, ask_of_few}
 use Rattle.cap_live.proofs.live.LiveFarm.ask_of.Goals as goal
 
 pub loop-index-init : goal.loop-index-init

@@ -1,4 +1,4 @@
-use Rattle.cap_live.proofs.Prelude.{◌∙◌, ap, sym, subst, Option, Some, None, MatchOption, ClusterState, HasNoWaiter, IsNextWaiter}
+use Rattle.cap_live.proofs.Prelude.{subst, None, MatchOption, HasNoWaiter, IsNextWaiter}
 use Rattle.cap_live.proofs.Apps.{no_next, some_next}
 use Rattle.cap_commit.proofs.Sizes.{tree_fits}
 use Rattle.cap_live.proofs.Sizes.{cluster_of_few}

@@ -1,6 +1,5 @@
-use Rattle.cap_live.proofs.Prelude.{◌∙◌, ap, sym, Some, option_map, option_and_then, holds_of, fits, ClusterNode, ClusterState, NodeSight}
-use Rattle.cap_live.proofs.Nodes.{fit_is, load_at, within}
-use Rattle.cap_live.proofs.Sizes.{cluster_of_few, nodes_of_few, load_of_few, node_of_few, amounts_of_few, reservation_of_few}
+use Rattle.cap_live.proofs.Prelude.{◌∙◌, ap, sym, holds_of, fits, ClusterNode, ClusterState, NodeSight}
+use Rattle.cap_live.proofs.Nodes.{fit_is, load_at}
 use Rattle.cap_live.proofs.live.LiveFarm.fits_total.Goals as goal
 
 pub returns : goal.returns

@@ -1,7 +1,7 @@
-use Rattle.cap_live.proofs.Prelude.{◌∙◌, ap, sym, subst, Option, Some, None, MatchOption, arith, ClusterState, HasNoWaiter, HasWaiter, IsIn, IsNextWaiter, app_sight, path_at, waiting_at}
+use Rattle.cap_live.proofs.Prelude.{◌∙◌, ap, sym, subst, Some, MatchOption, arith, ClusterState, HasNoWaiter, HasWaiter, IsNextWaiter, app_sight, path_at}
 use Rattle.cap_live.proofs.Apps.{held_at, held_waits, no_next, some_next}
 use Rattle.cap_commit.proofs.Sizes.{tree_fits}
-use Rattle.cap_live.proofs.Sizes.{app_of_few, cluster_of_few}
+use Rattle.cap_live.proofs.Sizes.{cluster_of_few}
 use Rattle.cap_live.proofs.live.LiveFarm.next_app.Goals as goal
 
 pub tree-tree-requires : goal.tree-tree-requires

@@ -1,6 +1,6 @@
-use Rattle.cap_live.proofs.Prelude.{◌∙◌, ◌+◌, ap, sym, arith, length, inl, is_none, is_some, sight_of, ClusterState, NodeTable, load_sight, IsIdle}
-use Rattle.cap_live.proofs.Nodes.{count_is, held_none, load_at, next_turn, no_turn, until, within}
-use Rattle.cap_live.proofs.Sizes.{cluster_of_few, nodes_of_few, load_of_few, reservation_of_few}
+use Rattle.cap_live.proofs.Prelude.{◌∙◌, ap, sym, arith, length, inl, is_some, sight_of, ClusterState, NodeTable, load_sight, IsIdle}
+use Rattle.cap_live.proofs.Nodes.{count_is, held_none, load_at, next_turn, no_turn, until}
+use Rattle.cap_live.proofs.Sizes.{nodes_of_few}
 use Rattle.cap_live.proofs.live.LiveFarm.next_reserved.Goals as goal
 
 pub loop-next-init : goal.loop-next-init

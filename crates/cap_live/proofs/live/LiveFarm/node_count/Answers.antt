@@ -1,7 +1,6 @@
-use Rattle.cap_live.proofs.Prelude.{◌∙◌, ap, sym, subst, length, map, All, App, AppTable, AreKept, ClusterNode, ClusterState, IsRising, NodeTable}
+use Rattle.cap_live.proofs.Prelude.{◌∙◌, ap, subst, map, All, AppTable, AreKept, ClusterState, IsRising, NodeTable}
 use Rattle.cap_live.proofs.Asks.{all_by_key}
-use Rattle.cap_live.proofs.Nodes.{count_is, nodes_whole}
-use Rattle.cap_live.proofs.Sizes.{apps_of_few, cluster_of_few, nodes_of_few}
+use Rattle.cap_live.proofs.Nodes.{nodes_whole}
 use Rattle.cap_live.proofs.live.LiveFarm.node_count.Goals as goal
 
 pub returns-clause-whole : goal.returns-clause-whole

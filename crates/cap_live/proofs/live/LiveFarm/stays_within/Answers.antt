@@ -1,8 +1,8 @@
-use Rattle.cap_live.proofs.Prelude.{◌∙◌, ap, sym, subst, arith, Some, None, is_none, App, ClusterState, HasWaiter, IsPosition, app_sight, in_limits, over_limit, sight_of}
+use Rattle.cap_live.proofs.Prelude.{◌∙◌, ap, sym, subst, arith, is_none, ClusterState, HasWaiter, over_limit}
 use Rattle.cap_commit.proofs.Sizes.{tree_fits}
 use Rattle.cap_live.proofs.Apps.{held_at}
 use Rattle.cap_live.proofs.Limits.{limits_are}
-use Rattle.cap_live.proofs.Sizes.{amounts_of_few, app_of_few, cluster_of_few}
+use Rattle.cap_live.proofs.Sizes.{cluster_of_few}
 use Rattle.cap_live.proofs.live.LiveFarm.stays_within.Goals as goal
 
 pub tree-tree-requires : goal.tree-tree-requires

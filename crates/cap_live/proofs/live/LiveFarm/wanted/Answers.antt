@@ -1,6 +1,5 @@
-use Rattle.cap_live.proofs.Prelude.{◌∙◌, ◌≡◌, ◌-◌, ◌<◌, ap, sym, subst, refl, length, map, filter, Some, All, IsSome, option_map, slice_get, slice_get_read, AreApart, ClusterState, IsRising, NodeTable, Reservation, is_for, node_in, sight_of, still_wanted}
+use Rattle.cap_live.proofs.Prelude.{◌∙◌, ◌≡◌, ◌-◌, ◌<◌, ap, sym, subst, refl, length, map, filter, Some, All, IsSome, option_map, slice_get, slice_get_read, AreApart, ClusterState, IsRising, NodeTable, is_for, node_in, sight_of, still_wanted}
 use Rattle.cap_live.proofs.Asks.{wanted_is}
-use Rattle.cap_live.proofs.Sizes.{app_of_few, ask_of_few, cluster_of_few, nodes_of_few}
 use Rattle.cap_live.proofs.live.LiveFarm.wanted.Goals as goal
 
 pub returns : goal.returns
