@@ -1,0 +1,5 @@
+//! Tests of proposals on a live cluster.
+#![tactic(auto)]
+
+#[cfg(test)]
+mod proposals;

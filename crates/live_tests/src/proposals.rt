@@ -1,0 +1,122 @@
+//! Tests of proposals on a live cluster: they are those on its snapshot, from each starting node.
+
+use cap_base::RESOURCES;
+use cap_commit::Cluster;
+use cap_copy::Snapshot;
+use cap_live::propose_live;
+use cap_model::{Key, Proposal, ProposalKind};
+use cap_propose::propose;
+use cap_testing::{Call, TWO_QUEUES, WantedContainers, cluster, make_call};
+use std::alloc::Global;
+
+/// Two of (2048, 1) anywhere, and one of (1024, 1) on `/r2`.
+const ASKS_OF_1: &[WantedContainers<'static>] = &[
+    WantedContainers {
+        priority: 1,
+        request: 0,
+        count: 2,
+        resource: [2048, 1, 0],
+        place: b"*",
+    },
+    WantedContainers {
+        priority: 2,
+        request: 0,
+        count: 1,
+        resource: [1024, 1, 0],
+        place: b"/r2",
+    },
+];
+
+/// Two of (1024, 1) on `n1`.
+const ASKS_OF_2: &[WantedContainers<'static>] = &[WantedContainers {
+    priority: 1,
+    request: 0,
+    count: 2,
+    resource: [1024, 1, 0],
+    place: b"n1",
+}];
+
+/// Application 1 in `root.a` and application 2 in `root.b` with their asks, application 3 that asks for nothing, and two nodes.
+static CALLS: [Call<'static>; 10] = [
+    Call::RegisterNode(b"n1", b"/r1", [4096, 4, 0]),
+    Call::Submit(b"root.a", b"u1"),
+    Call::RegisterMaster(1),
+    Call::Submit(b"root.b", b"u2"),
+    Call::Allocate(1, 0, ASKS_OF_1, &[]),
+    Call::RegisterMaster(2),
+    Call::Allocate(2, 0, ASKS_OF_2, &[]),
+    Call::Submit(b"root.b", b"u3"),
+    Call::RegisterMaster(3),
+    Call::RegisterNode(b"n2", b"/r2", [2048, 2, 0]),
+];
+
+/// The second container, which is on `n2`, ends.
+const END: Call<'static> = Call::Heartbeat(2, 0, &[2]);
+
+/// What a proposal is made of, to compare.
+type Parts = (bool, u64, Key, u64, [u64; RESOURCES]);
+
+fn parts(proposal: Option<Proposal<RESOURCES>>) -> Option<Parts> {
+    let proposal = proposal?;
+    Some((
+        proposal.kind == ProposalKind::Grant,
+        proposal.app,
+        proposal.key,
+        proposal.node,
+        proposal.resource.amounts(),
+    ))
+}
+
+/// Whether the proposals on the cluster and on its snapshot are the same from the first five starting nodes. `None` if an allocation
+/// fails.
+fn propose_alike(alloc: Global, cluster: &Cluster<RESOURCES>) -> Option<bool> {
+    let snapshot = Snapshot::take(alloc, cluster.tree(), cluster.apps(), cluster.nodes()).ok()?;
+    for start in 0..5 {
+        if parts(propose_live(cluster, start)) != parts(propose(&snapshot, start)) {
+            return Some(false);
+        }
+    }
+    Some(true)
+}
+
+/// A cluster after the calls. `None` if proposals differ before or after one of them, or an allocation fails.
+fn called(alloc: Global) -> Option<Cluster<RESOURCES>> {
+    let mut cluster = cluster(alloc, TWO_QUEUES)?;
+    for call in &CALLS {
+        make_call(alloc, &mut cluster, call)?;
+        if !propose_alike(alloc, &cluster)? {
+            return None;
+        }
+    }
+    Some(cluster)
+}
+
+/// How many proposals can be made one after the other, the first from the node at `start` on and each next from one node later.
+/// `None` if proposals differ after one of them, or an allocation fails.
+fn turns(alloc: Global, cluster: &mut Cluster<RESOURCES>, start: u32) -> Option<u32> {
+    for made in 0..8 {
+        let Some(proposal) = propose_live(cluster, start.wrapping_add(made)) else {
+            return Some(made);
+        };
+        let _verdict = cluster.try_commit(proposal).ok()?;
+        if !propose_alike(alloc, cluster)? {
+            return None;
+        }
+    }
+    None
+}
+
+/// How many proposals are made at first, and once the container has ended.
+fn made(alloc: Global) -> Option<(u32, u32)> {
+    let mut cluster = called(alloc)?;
+    let before = turns(alloc, &mut cluster, 0)?;
+    make_call(alloc, &mut cluster, &END)?;
+    let after = turns(alloc, &mut cluster, 1)?;
+    Some((before, after))
+}
+
+#[test]
+fn proposals_on_a_cluster_are_those_on_its_snapshot(rt: HostRuntime) {
+    // Four are granted; the ask for `/r2` gets a reservation on `n2`, which is converted once there is room.
+    assert!(rt; made(rt.alloc()) == Some((5, 1)));
+}
