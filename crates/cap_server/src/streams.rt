@@ -12,23 +12,28 @@ use crate::signal::EndSignal;
 use crate::uninterrupted::Uninterrupted;
 use std::io::{self, ErrorKind, Read, Write};
 use std::net::TcpStream;
+use std::sync::Wait;
 use std::time::Clock;
 
-/// Reads from a stream that does not block. It is quiet where nothing comes in 50 milliseconds, and as soon as the epoch is ending.
+/// Reads from a stream that does not block. It is quiet where nothing comes in 50 milliseconds, and as soon as the epoch is ending. What it reads
+/// counts for the end of the epoch.
 #[derive(Drop)]
-pub(crate) struct Incoming<'a> {
+pub(crate) struct Incoming<'a, H> {
+    rt: &'a H,
     stream: Uninterrupted<&'a TcpStream>,
     poller: &'a mut Poller,
     signal: &'a EndSignal,
 }
 
-impl<'a> Incoming<'a> {
+impl<'a, H: Wait + Clock> Incoming<'a, H> {
     pub(crate) fn new(
+        rt: &'a H,
         stream: &'a TcpStream,
         poller: &'a mut Poller,
         signal: &'a EndSignal,
-    ) -> Incoming<'a> {
+    ) -> Incoming<'a, H> {
         Incoming {
+            rt,
             stream: Uninterrupted::new(stream),
             poller,
             signal,
@@ -36,7 +41,7 @@ impl<'a> Incoming<'a> {
     }
 }
 
-impl Read for Incoming<'_> {
+impl<H: Wait + Clock> Read for Incoming<'_, H> {
     fn read(&mut self, buf: &mut [u8]) -> io::Result<usize> {
         if !self.signal.is_over() && !self.poller.is_ready() {
             self.poller.wait()?;
@@ -46,6 +51,9 @@ impl Read for Incoming<'_> {
         }
         let answer = self.stream.read(buf);
         self.poller.note(&answer, buf.len());
+        if let Ok(count) = &answer {
+            self.signal.bring(self.rt, *count);
+        }
         answer
     }
 }
