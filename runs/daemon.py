@@ -29,18 +29,17 @@ DESCRIPTORS = 7 + CONNECTION  # 0 to 2, the listener, three to wait with, and on
 EPOCH, CHANGES = 1000, 3  # how many entries an epoch has beside a client that takes nothing, and how many changes of epochs there are
 BUFFERS = 8192  # of a client that takes nothing, in bytes, so that it is soon full
 FULL = 0.5  # a socket that takes nothing for so many seconds is full; the daemon gives its client up after 5
-ALLOCATIONS = 400  # more than bad words take
 SECONDS = 20  # how long a line may take on a busy machine
 SOON = 5.0  # a daemon that can't go on ends within a second; on a busy machine it may take as many more
 
 
 class Daemon:
-    """A daemon with these limits, each a kind of the module `resource` and a number, and these property lines. It ends with the block that it is for."""
+    """A daemon with these limits, each a kind of the module `resource` and a number. It ends with the block that it is for."""
 
-    def __init__(self, program, words, limits, settings=SETTINGS, given=subprocess.DEVNULL):
+    def __init__(self, program, words, limits):
         self.port = free_port()
         self.config = tempfile.NamedTemporaryFile()
-        self.config.write(settings)
+        self.config.write(SETTINGS)
         self.config.flush()
         words = [program, "serve", "--port", str(self.port), "--config", self.config.name, *words]
 
@@ -49,7 +48,7 @@ class Daemon:
                 resource.setrlimit(kind, (most, most))
 
         self.began = time.monotonic()
-        self.process = subprocess.Popen(words, stdin=given, stdout=subprocess.PIPE, stderr=subprocess.PIPE, bufsize=0, preexec_fn=limit)
+        self.process = subprocess.Popen(words, stdout=subprocess.PIPE, stderr=subprocess.PIPE, bufsize=0, preexec_fn=limit)
         self.listening = line_of(self.process)
 
     def __enter__(self):
@@ -224,31 +223,6 @@ def check_backlog(program):
     return 1
 
 
-def check_waiting(program):
-    """There is no descriptor to wait for the listener with: it is said so."""
-    what = "no descriptor to wait with"
-    with Daemon(program, ["--workers", "1", "--connections", "1"], [(resource.RLIMIT_NOFILE, DESCRIPTORS - CONNECTION - 2)]) as daemon:
-        seen = daemon.ended()
-    expect(seen[0] == b"" and seen[2] == 1 and seen[1].startswith(b"listener: it can't be waited for: ") and seen[3] < SOON, what, seen)
-    return 1
-
-
-def check_words(program):
-    """Each allocation is refused alone that the words take, bad ones, which are else refused in words."""
-    words = [program, "serve", "--port", "0", "--workers", "1", "--config", "x", "--connections", "1"]
-    with tempfile.TemporaryDirectory() as folder:
-        allocator = f"{folder}/refuse_nth.so"
-        subprocess.run(["cc", "-O2", "-shared", "-fPIC", "-o", allocator, f"{HERE}/refuse_nth.c"], check=True)
-        for number in range(1, ALLOCATIONS):
-            environment = {"LD_PRELOAD": allocator, "REFUSED": str(number)}
-            seen = subprocess.run(words, env=environment, capture_output=True, timeout=SECONDS)
-            if seen.returncode == 2:
-                break
-            expect((seen.returncode, seen.stdout, seen.stderr) == (3, b"no memory\n", b""), f"words without allocation {number}", seen)
-    expect(1 < number < ALLOCATIONS - 1 and seen.stderr.startswith(b"error: "), "bad words", (number, seen))
-    return 1
-
-
 def check_last(program):
     """A client that comes after the last connection is refused, and does not hang."""
     with Daemon(program, ["--workers", "1", "--connections", "1"], []) as daemon:
@@ -270,7 +244,7 @@ def check_last(program):
 
 
 def check(program):
-    return check_threads(program) + check_memory(program) + check_descriptors(program) + check_backlog(program) + check_last(program) + check_waiting(program) + check_words(program)
+    return check_threads(program) + check_memory(program) + check_descriptors(program) + check_backlog(program) + check_last(program)
 
 
 def main():

@@ -13,7 +13,7 @@ use clap::builder::ValueParser;
 use clap::{Arg, ArgAction, ArgMatches, Command};
 use std::alloc::{AllocError, Global};
 use std::fs;
-use std::io::{self, ErrorKind, Input, Write};
+use std::io::{self, ErrorKind, Write};
 use std::net::{Net, TcpListener, TcpStream};
 use std::rt::Files;
 use std::sync::Wait;
@@ -25,9 +25,6 @@ const JOURNAL: &str = "4096";
 
 /// How many proposals wait for the committer, if no other number is given.
 const LANES: &str = "64";
-
-/// For how many seconds connections are served on once standard input has ended, if no other number is given.
-const DRAIN: &str = "10";
 
 /// What is said of lanes that can't hold the end of each worker.
 const FEW_LANES: &str = "error: --lanes is 0, or a number from 8 to 1024\n";
@@ -52,7 +49,7 @@ pub(crate) fn serve_command<'a>(alloc: Global) -> Result<Command<'a>, AllocError
             "connections",
             1,
             128,
-            "How many connections are accepted; with --renew, how many are served at once",
+            "How many connections are accepted",
         )
         .required(true))?
         .arg(number(
@@ -70,35 +67,7 @@ pub(crate) fn serve_command<'a>(alloc: Global) -> Result<Command<'a>, AllocError
             1024,
             "How many proposals wait for the committer, at least 8; 0: each worker commits its own",
         )
-        .default_value(LANES))?
-        .arg(flag(
-            alloc,
-            "renew",
-            "The place of a connection that has ended is given to the next, until standard input ends",
-        ))?
-        .arg(number(
-            alloc,
-            "drain",
-            0,
-            3600,
-            "For how many seconds connections are served on then",
-        )
-        .default_value(DRAIN))?
-        .arg(number(
-            alloc,
-            "stats",
-            1,
-            3600,
-            "Each how many seconds standard error is told what was done since the beginning",
-        ))
-}
-
-/// A word without a value.
-fn flag<'a>(alloc: Global, name: &'a str, help: &'a str) -> Arg<'a> {
-    Arg::new(alloc, name)
-        .long(name)
-        .action(ArgAction::SetTrue)
-        .help(help)
+        .default_value(LANES))
 }
 
 /// A word that is a number within bounds.
@@ -119,7 +88,6 @@ fn read_words<'a>(matches: &ArgMatches<'a>) -> Option<Words<'a>>
     ensures { IfSome result (λ words. IsAllowed words.sizes) }
 {
     let lanes: usize = matches.get_one("lanes")?;
-    let drain: u32 = matches.get_one("drain")?;
     let words = Words {
         port: matches.get_one("port")?,
         config: matches.get_str("config")?,
@@ -128,12 +96,6 @@ fn read_words<'a>(matches: &ArgMatches<'a>) -> Option<Words<'a>>
             connections: matches.get_one("connections")?,
             journal: matches.get_one("journal")?,
             lanes: if lanes == 0 { None } else { Some(lanes) },
-            drain: if matches.get_flag("renew") {
-                Some(drain)
-            } else {
-                None
-            },
-            stats: matches.get_one("stats"),
         },
     };
     if !words.sizes.is_allowed() {
@@ -145,15 +107,13 @@ fn read_words<'a>(matches: &ArgMatches<'a>) -> Option<Words<'a>>
 /// Serves connections on a port of 127.0.0.1, over a cluster with the queues of a settings file. The result is the exit status: 0 done; 1
 /// if the writer, the settings file or the listener failed; 2 for bad words, or a fault of the settings, which is printed; 3 if an allocation failed or
 /// a thread could not be made, which is printed as `no memory`.
-/// What was wrong is left in words in `complaint`, except of the writer, and how many proposals were made and rejected. Standard error is told at
-/// once of what fails while the daemon runs.
+/// What was wrong is left in words in `complaint`, except of the writer, and how many proposals were made and rejected.
 pub(crate) fn serve<
     H: Net<Listener = TcpListener, Stream = TcpStream>
         + Threads
         + Wait
         + Clock
         + Eprint
-        + Input
         + Files
         + AllocGlobal
         + Sync,
@@ -192,7 +152,7 @@ fn read_settings<H: Files + AllocGlobal, W: Write>(
     let text = match fs::read(rt, path) {
         Ok(text) => text,
         Err(error) if error.kind() == ErrorKind::OutOfMemory => return Err(no_memory(writer)),
-        Err(error) => return Err(refuse(alloc, "settings file", error, complaint)),
+        Err(error) => return Err(refuse(alloc, "settings file", Some(error), complaint)),
     };
     match read_detailed(alloc, &text) {
         Ok(config) => Ok(config),
@@ -207,7 +167,6 @@ fn serve_settings<
         + Wait
         + Clock
         + Eprint
-        + Input
         + AllocGlobal
         + Sync,
     W: Write,
@@ -226,16 +185,19 @@ fn serve_settings<
     let alloc = rt.alloc();
     let listener = match TcpListener::bind(rt, ("127.0.0.1", words.port)) {
         Ok(listener) => listener,
-        Err(error) => return refuse(alloc, "listener", error, complaint),
+        Err(error) => return refuse(alloc, "listener", Some(error), complaint),
     };
     let tally = Tally::new();
     let status = serve_on(rt, alloc, listener, &words.sizes, config, &tally, writer);
     report(alloc, &tally, complaint);
+    if status == 1 && writer.failures() == 0 {
+        return refuse(alloc, "listener", None, complaint);
+    }
     status
 }
 
 /// Prints that an allocation failed. The result is the exit status: 3, or 1 if the writer failed.
-pub(crate) fn no_memory<W: Write>(writer: &mut Counted<W>) -> u8
+fn no_memory<W: Write>(writer: &mut Counted<W>) -> u8
     requires { CanCount (state_of writer.old) }
     ensures status { result < 4 }
     ensures failed { (state_of writer.old).failures < (state_of writer.new).failures → result ≡ 1 }
@@ -255,10 +217,14 @@ fn report(alloc: Global, tally: &Tally, complaint: &mut String) {
 }
 
 /// Leaves in `complaint` what failed, with the system's error. The result is the exit status 1.
-fn refuse(alloc: Global, what: &str, error: io::Error, complaint: &mut String) -> u8
+fn refuse(alloc: Global, what: &str, error: Option<io::Error>, complaint: &mut String) -> u8
     ensures { result ≡ 1 }
 {
-    if let Ok(line) = format!(in alloc; "{what}: {error}\n") {
+    let line = match error {
+        Some(error) => format!(in alloc; "{what}: {error}\n"),
+        None => format!(in alloc; "{what}: a connection could not be accepted\n"),
+    };
+    if let Ok(line) = line {
         let _kept = complaint.push_str(line.as_str());
     }
     1

@@ -2,12 +2,12 @@
 ghost use Rattle.std.specs.Prelude.{◌≡◌, ◌<◌};
 ghost use Rattle.cap_session.specs.Counted.{state_of, CanCount};
 
-use crate::serve::{no_memory, serve, serve_command};
+use crate::serve::{serve, serve_command};
 use cap_commands::{Counted, command_line, explain_failure, perform, report};
 use clap::Command;
 use std::alloc::{AllocError, Global};
 use std::convert::AsStr;
-use std::io::{Input, Read, Write};
+use std::io::{Read, Write};
 use std::net::{Net, TcpListener, TcpStream};
 use std::rt::Files;
 use std::sync::Wait;
@@ -23,7 +23,6 @@ pub fn run<
         + Wait
         + Clock
         + Eprint
-        + Input
         + Files
         + AllocGlobal
         + Sync,
@@ -44,17 +43,14 @@ pub fn run<
 {
     let alloc = rt.alloc();
     let Ok(command) = with_serve(alloc) else {
-        return no_memory(writer);
+        return 3;
     };
     let status = match command.try_get_matches_from(words) {
         Ok(matches) => match matches.subcommand() {
             Some(("serve", matches)) => serve(rt, matches, writer, complaint),
             _ => perform(alloc, &matches, reader, writer, complaint),
         },
-        Err(error) => match report(alloc, &error, writer, complaint) {
-            3 => no_memory(writer),
-            status => status,
-        },
+        Err(error) => report(alloc, &error, writer, complaint),
     };
     explain_failure(alloc, status, reader, writer, complaint);
     status

@@ -3,17 +3,15 @@ ghost use Rattle.std.specs.Prelude.{◌≡◌, ◌≤◌, ◌<◌, length, IfOk}
 ghost use Rattle.cap_server.specs.Epochs.{LeadsTo};
 
 use crate::participants::{EpochThreads, Lanes, Participants};
-use crate::places::Places;
 use crate::state::SharedState;
 use crate::task::Records;
-use crate::threads::{Common, run_threads};
+use crate::threads::run_threads;
 use cap_base::RESOURCES;
 use cap_commit::Cluster;
 use cap_model::NoMemory;
 use cap_shared::{Blank, Closed, Naming, Seat, Shared};
 use cap_workers::{Coordinator, Gate};
 use std::alloc::Global;
-use std::io::Input;
 use std::marker::Brand;
 use std::net::Net;
 use std::sync::Wait;
@@ -44,7 +42,7 @@ impl Carried {
 
 /// An epoch over the cluster that the last one left, with a seat for each connection, each worker and the committer: its journal leads from this
 /// cluster to the one that is left. An error means that an allocation failed or that a thread could not be made; the cluster is given up then.
-pub(crate) fn epoch<H: Net + Threads + Wait + Clock + Eprint + Input + Sync, G: Gate + Sync>(
+pub(crate) fn epoch<H: Net + Threads + Wait + Clock + Eprint + Sync, G: Gate + Sync>(
     rt: &H,
     alloc: Global,
     carried: Carried,
@@ -65,7 +63,7 @@ pub(crate) fn epoch<H: Net + Threads + Wait + Clock + Eprint + Input + Sync, G: 
 /// The same under a name.
 fn named_epoch<
     J: Naming + Send + Sync,
-    H: Net + Threads + Wait + Clock + Eprint + Input + Sync,
+    H: Net + Threads + Wait + Clock + Eprint + Sync,
     G: Gate + Sync,
 >(
     rt: &H,
@@ -96,7 +94,7 @@ fn named_epoch<
 /// that a thread could not be made.
 fn work_all<
     J: Naming + Send + Sync,
-    H: Net + Threads + Wait + Clock + Eprint + Input + Sync,
+    H: Net + Threads + Wait + Clock + Eprint + Sync,
     G: Gate + Sync,
 >(
     rt: &H,
@@ -111,17 +109,14 @@ fn work_all<
 {
     let lanes = Lanes::new(alloc, state.lanes)?;
     let running = EpochThreads::new(alloc, seats)?;
-    let common = Common {
-        coordinator: Coordinator::new(),
-        places: Places::new(alloc, state.seats as usize)?,
-    };
+    let coordinator = Coordinator::new();
     state.signal.lower(rt);
     let (participants, seats) = run_threads(
         rt,
         alloc,
         shared,
         state,
-        &common,
+        &coordinator,
         lanes,
         running,
         participants,

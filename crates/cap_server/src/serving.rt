@@ -12,7 +12,6 @@ use crate::epoch::{Carried, epoch};
 use crate::participants::Participants;
 use crate::signal::EndSignal;
 use crate::state::SharedState;
-use crate::stats::Stats;
 use cap_base::RESOURCES;
 use cap_commit::Cluster;
 use cap_config::Config;
@@ -20,7 +19,7 @@ use cap_model::NoMemory;
 use cap_session::{Counted, write_out};
 use cap_workers::{Gate, Worker};
 use std::alloc::Global;
-use std::io::{self, ErrorKind, Input, Write};
+use std::io::{self, ErrorKind, Write};
 use std::net::{Net, TcpListener};
 use std::sync::Wait;
 use std::thread::Threads;
@@ -41,11 +40,6 @@ pub struct Sizes {
     /// How many proposals wait for the committer at most: 8 to 1,024. `None` if each worker
     /// commits what it proposes.
     pub lanes: Option<usize>,
-    /// For how many seconds connections are served on once standard input has ended, at most 3,600, where the place of a connection that has
-    /// ended is given to the next: then `connections` are served at once. `None` if as many are accepted in all.
-    pub drain: Option<u32>,
-    /// Each how many seconds standard error is told what was done since the beginning: 1 to 3,600. `None` if it is not.
-    pub stats: Option<u32>,
 }
 
 impl Sizes {
@@ -54,13 +48,10 @@ impl Sizes {
         ensures { IsTrue result ↔ IsAllowed self.now }
     {
         let places = self.lanes.unwrap_or(8);
-        let stats = self.stats.unwrap_or(1);
         (1..=8).contains(&self.workers)
             && (1..=128).contains(&self.connections)
             && (1..=1_000_000).contains(&self.journal)
             && (8..=1024).contains(&places)
-            && self.drain.unwrap_or(0) <= 3600
-            && (1..=3600).contains(&stats)
     }
 }
 
@@ -91,7 +82,7 @@ impl Totals {
 /// accepted, after which those that were accepted are still served; 3 if an allocation of the daemon's own failed or a thread could not be made,
 /// after it has printed `no memory`. Standard error is told why a connection could not be accepted or set up, and at the end how many changes of
 /// epochs there were and how long they took at most.
-pub fn serve_on<H: Net + Threads + Wait + Clock + Eprint + Input + Sync, G: Gate + Sync, W: Write>(
+pub fn serve_on<H: Net + Threads + Wait + Clock + Eprint + Sync, G: Gate + Sync, W: Write>(
     rt: &H,
     alloc: Global,
     listener: TcpListener,
@@ -108,33 +99,28 @@ pub fn serve_on<H: Net + Threads + Wait + Clock + Eprint + Input + Sync, G: Gate
         (W.contents (inner_of writer.old)) (W.contents (inner_of writer.new))
         (Ends sizes.now.journal (opened_cluster config.now) result) }
 {
-    let port = match port_of(&listener) {
-        Ok(port) => port,
-        Err(error) => return without_descriptor(rt, error, writer),
+    let Some(port) = port_of(&listener) else {
+        return 1;
     };
     let signal = match EndSignal::new(rt) {
         Ok(signal) => signal,
         Err(error) => return without_descriptor(rt, error, writer),
     };
-    let acceptor = match Acceptor::new(rt, alloc, listener, sizes, &signal) {
+    let acceptor = match Acceptor::new(rt, alloc, listener, sizes.connections, &signal) {
         Ok(acceptor) => acceptor,
-        Err(error) => return without_descriptor(rt, error, writer),
-    };
-    let waker = match acceptor.waker() {
-        Ok(waker) => waker,
         Err(error) => return without_descriptor(rt, error, writer),
     };
     let Ok(carried) = begin(alloc, config, sizes, acceptor) else {
         return no_memory(writer);
     };
-    let state = SharedState::new(gate, sizes, signal, waker, stats_of(rt, sizes));
+    let state = SharedState::new(gate, sizes, signal);
     match announce(alloc, port, writer) {
         Ok(()) => serve_all(rt, alloc, &state, carried, writer),
         Err(status) => status,
     }
 }
 
-/// The listener can't be set up or waited for, or an allocation failed. The result is the exit status.
+/// The system has no descriptor for the daemon, or no memory. The result is the exit status.
 fn without_descriptor<H: Eprint, W: Write>(rt: &H, error: io::Error, writer: &mut Counted<W>) -> u8
     requires { CanCount (state_of writer.old) }
     ensures status { result < 4 }
@@ -146,7 +132,7 @@ fn without_descriptor<H: Eprint, W: Write>(rt: &H, error: io::Error, writer: &mu
     if error.kind() == ErrorKind::OutOfMemory {
         return no_memory(writer);
     }
-    let _told = eprintln!(rt; "listener: it can't be waited for: {error}");
+    let _told = eprintln!(rt; "listener: {error}");
     1
 }
 
@@ -176,7 +162,7 @@ fn announce<W: Write>(alloc: Global, port: u16, writer: &mut Counted<W>) -> Resu
 }
 
 /// Serves until all connections have ended, and prints how many epochs and entries there were. The result is the exit status.
-fn serve_all<H: Net + Threads + Wait + Clock + Eprint + Input + Sync, G: Gate + Sync, W: Write>(
+fn serve_all<H: Net + Threads + Wait + Clock + Eprint + Sync, G: Gate + Sync, W: Write>(
     rt: &H,
     alloc: Global,
     state: &SharedState<'_, G>,
@@ -234,10 +220,15 @@ fn no_memory<W: Write>(writer: &mut Counted<W>) -> u8
     }
 }
 
-/// The port of the listener, which does not wait for connections any more. An error means that the system refuses.
-fn port_of(listener: &TcpListener) -> io::Result<u16> {
-    listener.set_nonblocking(true)?;
-    Ok(listener.local_addr()?.port())
+/// The port of the listener, which does not wait for connections any more. `None` if the system refuses.
+fn port_of(listener: &TcpListener) -> Option<u16> {
+    if listener.set_nonblocking(true).is_err() {
+        return None;
+    }
+    match listener.local_addr() {
+        Ok(address) => Some(address.port()),
+        Err(_) => None,
+    }
 }
 
 /// The cluster of the settings, and the workers. An error means that an allocation failed.
@@ -273,22 +264,6 @@ fn workers_of(alloc: Global, count: u32) -> Result<Vec<Worker>, NoMemory> {
     Ok(workers)
 }
 
-/// What is told each so often, if it is.
-fn stats_of<H: Clock>(rt: &H, sizes: &Sizes) -> Option<Stats> {
-    match sizes.stats {
-        Some(seconds) => Some(Stats::new(rt, seconds)),
-        None => None,
-    }
-}
-
-/// An epoch was closed that left this.
-fn note_epoch<H: Wait + Clock + Eprint, G>(rt: &H, state: &SharedState<'_, G>, carried: &Carried) {
-    if let Some(records) = &carried.participants.records {
-        let accepted = carried.participants.acceptor.accepted();
-        state.note_epoch(rt, records.journal.as_slice(), accepted);
-    }
-}
-
 /// Lets the memory that an epoch frees be kept for the next. glibc's malloc takes a block above a threshold anew from the system, and gives
 /// it back when it is freed. Freeing such a block of up to 32 MiB raises that threshold to its size, and to twice its size the one for
 /// giving back what is free at the end of the heap (mallopt(3), M_MMAP_THRESHOLD). Nothing is written to the block, so it costs no memory.
@@ -299,7 +274,7 @@ fn keep_memory(alloc: Global) {
 /// One epoch after the other, each over the cluster that the last one closed, until all connections have ended: how many there were, and what the
 /// last one left. The events of all journals, one after the other, lead from the first cluster to the last one. An error means that an
 /// allocation failed, or that a thread could not be made.
-fn run_epochs<H: Net + Threads + Wait + Clock + Eprint + Input + Sync, G: Gate + Sync>(
+fn run_epochs<H: Net + Threads + Wait + Clock + Eprint + Sync, G: Gate + Sync>(
     rt: &H,
     alloc: Global,
     state: &SharedState<'_, G>,
@@ -317,7 +292,6 @@ fn run_epochs<H: Net + Threads + Wait + Clock + Eprint + Input + Sync, G: Gate +
     for _ in rt.forever() {
         carried = epoch(rt, alloc, carried, state)?;
         totals = totals.with_epoch(carried.entries);
-        note_epoch(rt, state, &carried);
         if state.is_over() {
             return Ok((totals, carried));
         }

@@ -9,9 +9,6 @@ use std::sync::atomic::{AtomicU64, Ordering};
 use std::sync::{Condvar, CondvarTimeouts, Mutex, Wait};
 use std::time::{Clock, Duration, Instant};
 
-/// How many bytes connections bring in an epoch, before it ends: 16 MiB.
-const BROUGHT_MAX: u64 = 16 * 1024 * 1024;
-
 /// What threads look at that wait for nothing but the end of the epoch.
 #[derive(Drop)]
 struct Idle {
@@ -23,8 +20,6 @@ struct Idle {
 #[derive(Drop)]
 pub(crate) struct EndSignal {
     raised: AtomicU64,
-    /// How many bytes connections have brought since it was lowered.
-    brought: AtomicU64,
     idle: Mutex<Idle>,
     woken: Condvar,
     /// The descriptor that all watch becomes readable with each wake.
@@ -41,7 +36,6 @@ impl EndSignal {
         let waker = Waker::new(wakes.registry(), Token(0))?;
         Ok(EndSignal {
             raised: AtomicU64::new(0),
-            brought: AtomicU64::new(0),
             idle: Mutex::new(Idle { is_over: false }),
             woken: Condvar::new(),
             wakes,
@@ -59,7 +53,6 @@ impl EndSignal {
     /// An epoch begins.
     pub(crate) fn lower<H: Wait>(&self, rt: &H) {
         self.idle.lock(rt).is_over = false;
-        self.brought.store(0, Ordering::SeqCst);
         self.raised.store(0, Ordering::SeqCst);
     }
 
@@ -72,16 +65,6 @@ impl EndSignal {
         self.idle.lock(rt).is_over = true;
         self.woken.notify_all();
         let _woken = self.waker.wake();
-    }
-
-    /// A connection has brought so many bytes. Once all have brought 16 MiB since it was lowered it is raised: what an epoch keeps of requests is
-    /// bounded so, however many entries its journal may have.
-    pub(crate) fn bring<H: Wait + Clock>(&self, rt: &H, count: usize) {
-        let count = count as u64;
-        let before = self.brought.fetch_add(count, Ordering::SeqCst);
-        if before.saturating_add(count) >= BROUGHT_MAX {
-            self.raise(rt);
-        }
     }
 
     /// Whether the epoch is ending.

@@ -12,28 +12,23 @@ use crate::signal::EndSignal;
 use crate::uninterrupted::Uninterrupted;
 use std::io::{self, ErrorKind, Read, Write};
 use std::net::TcpStream;
-use std::sync::Wait;
 use std::time::Clock;
 
-/// Reads from a stream that does not block. It is quiet where nothing comes in 50 milliseconds, and as soon as the epoch is ending. What it reads
-/// counts for the end of the epoch.
+/// Reads from a stream that does not block. It is quiet where nothing comes in 50 milliseconds, and as soon as the epoch is ending.
 #[derive(Drop)]
-pub(crate) struct Incoming<'a, H> {
-    rt: &'a H,
+pub(crate) struct Incoming<'a> {
     stream: Uninterrupted<&'a TcpStream>,
     poller: &'a mut Poller,
     signal: &'a EndSignal,
 }
 
-impl<'a, H: Wait + Clock> Incoming<'a, H> {
+impl<'a> Incoming<'a> {
     pub(crate) fn new(
-        rt: &'a H,
         stream: &'a TcpStream,
         poller: &'a mut Poller,
         signal: &'a EndSignal,
-    ) -> Incoming<'a, H> {
+    ) -> Incoming<'a> {
         Incoming {
-            rt,
             stream: Uninterrupted::new(stream),
             poller,
             signal,
@@ -41,7 +36,7 @@ impl<'a, H: Wait + Clock> Incoming<'a, H> {
     }
 }
 
-impl<H: Wait + Clock> Read for Incoming<'_, H> {
+impl Read for Incoming<'_> {
     fn read(&mut self, buf: &mut [u8]) -> io::Result<usize> {
         if !self.signal.is_over() && !self.poller.is_ready() {
             self.poller.wait()?;
@@ -51,9 +46,6 @@ impl<H: Wait + Clock> Read for Incoming<'_, H> {
         }
         let answer = self.stream.read(buf);
         self.poller.note(&answer, buf.len());
-        if let Ok(count) = &answer {
-            self.signal.bring(self.rt, *count);
-        }
         answer
     }
 }

@@ -1,6 +1,5 @@
 //! What the threads of an epoch do: those of workers and of the committer (`Task`), and those that serve connections.
 use crate::connection::ClientConnection;
-use crate::places::{Given, Place};
 use crate::state::SharedState;
 use cap_shared::{Entry, Naming, Seat, SeatReport, Shared};
 use cap_workers::{
@@ -31,22 +30,20 @@ pub(crate) enum Task {
 pub(crate) enum Remains {
     Connection(ClientConnection),
     Worker(Worker),
-    /// The connection has ended.
-    Ended,
-    /// The next epoch has a committer of its own.
+    /// The connection has ended, or the next epoch has a committer of its own.
     Nothing,
 }
 
-/// A task that was done in an epoch, and the seat that it was done with, if there was one.
+/// A task that was done in an epoch, and the seat that it was done with.
 #[derive(Drop)]
 pub(crate) struct Done<J: Naming> {
     pub remains: Remains,
-    pub seat: Option<Seat<J>>,
+    pub seat: Seat<J>,
 }
 
 impl<J: Naming> Done<J> {
     /// What remains, and the seat.
-    pub(crate) fn into_parts(self) -> (Remains, Option<Seat<J>>) {
+    pub(crate) fn into_parts(self) -> (Remains, Seat<J>) {
         let Done { remains, seat } = self;
         (remains, seat)
     }
@@ -77,49 +74,30 @@ impl Task {
                 )
             }
             Task::Commit(committer) => {
-                commit_all(rt, shared, &mut seat, coordinator, &state.gate, committer);
+                commit_all(rt, shared, &mut seat, coordinator, state.gate, committer);
                 Remains::Nothing
             }
         };
-        Done {
-            remains,
-            seat: Some(seat),
-        }
+        Done { remains, seat }
     }
 }
 
-/// Serves the connection that was given in an epoch, until it ends or the epoch does. Where it has ended, that is noted at its place.
+/// Serves a connection in an epoch, until it ends or the epoch does.
 pub(crate) fn serve<J: Naming, H: Wait + Clock, G>(
     rt: &H,
     shared: &Shared<J>,
     state: &SharedState<'_, G>,
-    place: &Place<J>,
+    connection: ClientConnection,
+    mut seat: Seat<J>,
 ) -> Done<J> {
-    let Some(
-        Given {
-            connection,
-            mut seat,
-        },
-    ) = place.take(rt)
-    else {
-        return Done {
-            remains: Remains::Nothing,
-            seat: None,
-        };
-    };
     let remains = match connection.serve(rt, shared, &mut seat, &state.signal) {
         Some(connection) => Remains::Connection(connection),
         None => {
             state.end_connections(rt, 1);
-            place.note_end();
-            state.wake();
-            Remains::Ended
+            Remains::Nothing
         }
     };
-    Done {
-        remains,
-        seat: Some(seat),
-    }
+    Done { remains, seat }
 }
 
 /// Schedules until the journal is full or the epoch ends; where the journal is full the epoch ends.
@@ -133,7 +111,7 @@ fn propose<J: Naming, H: Wait + Clock, G: Gate>(
     mut worker: Worker,
     putter: Option<Putter>,
 ) -> Remains {
-    let (signal, gate) = (&state.signal, &state.gate);
+    let (signal, gate) = (&state.signal, state.gate);
     match putter {
         Some(putter) => schedule_by_lane(
             rt,

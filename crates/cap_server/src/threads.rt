@@ -2,17 +2,14 @@
 ghost use denote.Param.Send.{IsSend, IsSync};
 
 use crate::acceptor::{Accept, Acceptor};
-use crate::connection::{ClientConnection, Refused};
-use crate::participants::{EpochThreads, Lanes, Participants, SeatedThread};
-use crate::places::{Given, Place, Places};
-use crate::renewal::Course;
+use crate::connection::ClientConnection;
+use crate::participants::{EpochThreads, Lanes, Participants};
 use crate::state::SharedState;
 use crate::task::{Done, Records, Task, serve};
 use cap_model::NoMemory;
 use cap_shared::{Naming, Seat, Shared};
 use cap_workers::{Coordinator, Gate, Putter, StopSignal};
 use std::alloc::Global;
-use std::io::Input;
 use std::net::{Net, TcpStream};
 use std::sync::Wait;
 use std::thread::{self, Builder, JoinHandle, Scope, SpawnError, Threads};
@@ -29,24 +26,17 @@ const BEGIN_MORE: u64 = 4;
 /// The stack of a connection's thread, in bytes. Of threads that end, glibc keeps 40 MiB of stacks for those that begin.
 const STACK: usize = 512 * 1024;
 
-/// What the threads of an epoch share beside the cluster.
-#[derive(Drop)]
-pub(crate) struct Common<J: Naming> {
-    pub coordinator: Coordinator,
-    pub places: Places<J>,
-}
-
 /// Begins the threads of an epoch, and waits for them.
 pub(crate) fn run_threads<
     J: Naming + Send + Sync,
-    H: Net + Threads + Wait + Clock + Eprint + Input + Sync,
+    H: Net + Threads + Wait + Clock + Eprint + Sync,
     G: Gate + Sync,
 >(
     rt: &H,
     alloc: Global,
     shared: &Shared<J>,
     state: &SharedState<'_, G>,
-    common: &Common<J>,
+    coordinator: &Coordinator,
     lanes: Lanes,
     running: EpochThreads<J>,
     participants: Participants,
@@ -63,7 +53,7 @@ pub(crate) fn run_threads<
                 alloc,
                 shared,
                 state,
-                common,
+                coordinator,
             };
             epoch.run(lanes, running, participants)
         },
@@ -78,7 +68,7 @@ struct EpochScope<'s, 'a, E, J: Naming, H, G> {
     alloc: Global,
     shared: &'s Shared<J>,
     state: &'s SharedState<'a, G>,
-    common: &'s Common<J>,
+    coordinator: &'s Coordinator,
 }
 
 impl<
@@ -86,7 +76,7 @@ impl<
     'a,
     E,
     J: Naming + Send + Sync,
-    H: Net + Threads + Wait + Clock + Eprint + Input + Sync,
+    H: Net + Threads + Wait + Clock + Eprint + Sync,
     G: Gate + Sync,
 > EpochScope<'s, 'a, E, J, H, G> {
     /// The epoch, from its first thread to its last.
@@ -119,66 +109,25 @@ impl<
         running.join(self.rt, acceptor)
     }
 
-    /// Begins a thread for a connection. Where the epoch is ending that is left to the next one. Whether a thread could be made, or none was to be:
-    /// else the connection waits for it.
-    fn begin_connection(
-        &self,
-        running: &mut EpochThreads<J>,
-        connection: ClientConnection,
-    ) -> bool {
-        let signal = &self.state.signal;
-        if signal.is_over() {
-            running.keep(self.rt, signal, connection);
-            return true;
+    /// Begins a thread for a connection. Where the epoch is ending that is left to the next one; where no thread can be made it ends.
+    fn begin_connection(&self, running: &mut EpochThreads<J>, connection: ClientConnection) {
+        if self.state.signal.is_over() {
+            running.keep(self.rt, &self.state.signal, connection);
+            return;
         }
         let Some(seat) = running.next_seat() else {
-            return running.fail(self.rt, signal);
+            running.fail(self.rt, &self.state.signal);
+            return;
         };
-        let number = seat.number();
-        let Some(place) = self.common.places.of(number) else {
-            return running.fail(self.rt, signal);
-        };
-        place.give(self.rt, connection, seat);
-        match begin_serving(self.scope, self.rt, self.shared, self.state, place) {
-            Some(thread) => {
-                running.add(self.rt, signal, Some(SeatedThread::new(number, thread)))
-            }
-            None => self.take_back(running, place),
-        }
-    }
-
-    /// Takes back a connection and its seat, since no thread could be made for it. It is tried again for 5 seconds; then the connection alone is
-    /// closed.
-    fn take_back(&self, running: &mut EpochThreads<J>, place: &Place<J>) -> bool {
-        let signal = &self.state.signal;
-        let Some(
-            Given {
-                mut connection,
-                seat,
-            },
-        ) = place.take(self.rt)
-        else {
-            return running.fail(self.rt, signal);
-        };
-        if running.seats.push(seat).is_err() {
-            return running.fail(self.rt, signal);
-        }
-        match connection.refuse(self.rt) {
-            Refused::GivenUp => {
-                let _told = eprintln!(self.rt; "connection: no thread can be made, it is closed");
-                drop(connection);
-                running.end_connection();
-                self.state.end_connections(self.rt, 1);
-            }
-            Refused::First => {
-                let _told = eprintln!(self.rt;
-                    "connection: no thread can be made; it is tried again"
-                );
-                running.put_off(self.rt, signal, connection);
-            }
-            Refused::Again => running.put_off(self.rt, signal, connection),
-        }
-        false
+        let begun = begin_serving(
+            self.scope,
+            self.rt,
+            self.shared,
+            self.state,
+            connection,
+            seat,
+        );
+        running.add(self.rt, &self.state.signal, begun);
     }
 
     /// Begins a thread for a task. Where none can be made the epoch ends. Whether the thread was made.
@@ -186,22 +135,18 @@ impl<
         let Some(seat) = running.next_seat() else {
             return running.fail(self.rt, &self.state.signal);
         };
-        let number = seat.number();
         let begun = begin_thread(
             self.scope,
             self.rt,
             self.alloc,
             self.shared,
             self.state,
-            &self.common.coordinator,
+            self.coordinator,
             task,
             seat,
         );
         match begun {
-            Begun::Thread(thread) => {
-                let thread = SeatedThread::new(number, thread);
-                running.add(self.rt, &self.state.signal, Some(thread))
-            }
+            Begun::Thread(thread) => running.add(self.rt, &self.state.signal, Some(thread)),
             Begun::Done(done) => {
                 running.take_back(done);
                 running.fail(self.rt, &self.state.signal)
@@ -220,9 +165,7 @@ impl<
             let Some(connection) = running.next_waiting() else {
                 return;
             };
-            if !self.begin_connection(running, connection) {
-                return;
-            }
+            self.begin_connection(running, connection);
         }
     }
 
@@ -240,10 +183,7 @@ impl<
     /// Accepts connections, and begins a thread for each connection to which something comes, until the epoch ends.
     fn attend(&self, running: &mut EpochThreads<J>, acceptor: &mut Acceptor) {
         for _ in self.rt.forever() {
-            self.renew(running, acceptor);
             self.accept_all(running, acceptor);
-            self.state
-                .look_at_stats(self.rt, self.shared, acceptor.accepted());
             if self.shared.is_full(self.rt) {
                 self.state.signal.raise(self.rt);
             }
@@ -265,29 +205,6 @@ impl<
         }
     }
 
-    /// Gives on the places of connections that have ended, and looks whether the daemon is to end.
-    fn renew(&self, running: &mut EpochThreads<J>, acceptor: &mut Acceptor) {
-        if !acceptor.renews() {
-            return;
-        }
-        for number in 0..self.state.seats {
-            if self.common.places.has_ended(number) {
-                running.join_ended(self.rt, number);
-            }
-        }
-        acceptor.give_on(running.take_ended());
-        match acceptor.course(self.rt) {
-            Course::On => {}
-            Course::Drains => {
-                let _told = eprintln!(self.rt;
-                    "standard input has ended: no more connections are accepted"
-                );
-                self.state.end_connections(self.rt, 1);
-            }
-            Course::Over => self.state.end_all(self.rt),
-        }
-    }
-
     /// Begins a thread for each connection to which something came, unless the epoch is ending.
     fn begin_ready(&self, running: &mut EpochThreads<J>, acceptor: &mut Acceptor) {
         for _ in self.rt.forever() {
@@ -295,7 +212,7 @@ impl<
                 return;
             };
             if let Some(connection) = running.take_watched(acceptor, number) {
-                let _begun = self.begin_connection(running, connection);
+                self.begin_connection(running, connection);
             }
         }
     }
@@ -308,7 +225,6 @@ impl<
             }
             match acceptor.accept(self.rt) {
                 Accept::Accepted(stream, number) => {
-                    self.state.add_connection();
                     self.welcome(running, acceptor, stream, number);
                 }
                 Accept::GivenUp => {}
@@ -339,7 +255,6 @@ impl<
             Ok(connection) => running.wait_or_watch(self.rt, signal, acceptor, connection),
             Err(error) => {
                 let _told = eprintln!(self.rt; "connection: {error}");
-                running.end_connection();
                 self.state.end_connections(self.rt, 1);
             }
         }
@@ -362,15 +277,16 @@ fn lane_of(putters: &mut Vec<Putter>, number: u32) -> Option<Putter> {
     Some(putters.swap_remove(place))
 }
 
-/// Begins a thread for the connection that was given, which it takes. `None` if none can be made: what was given stays.
+/// Begins a thread for a connection. If none can be made the connection is closed.
 fn begin_serving<'s, 'a, E, J: Naming + Send + Sync, H: Wait + Clock + Sync, G: Sync>(
     scope: &'s Scope<'s, E>,
     rt: &'s H,
     shared: &'s Shared<J>,
     state: &'s SharedState<'a, G>,
-    place: &'s Place<J>,
+    connection: ClientConnection,
+    seat: Seat<J>,
 ) -> Option<JoinHandle<Done<J>>> {
-    let work = move || serve(rt, shared, state, place);
+    let work = move || serve(rt, shared, state, connection, seat);
     Builder::new()
         .stack_size(STACK)
         .spawn_scoped(scope, work)

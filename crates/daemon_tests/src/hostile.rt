@@ -5,7 +5,7 @@ use crate::gates::GateOf;
 use crate::side::{Client, ONE_QUEUE, closed};
 use cap_server::Sizes;
 use std::alloc::Global;
-use std::io::{self, Input};
+use std::io;
 use std::net::{Net, TcpListener, TcpStream};
 use std::sync::Wait;
 use std::test::*;
@@ -79,13 +79,7 @@ struct Hostile;
 
 impl Client for Hostile {
     fn talk<
-        H: Net<Listener = TcpListener, Stream = TcpStream>
-            + Threads
-            + Wait
-            + Clock
-            + Eprint
-            + Input
-            + Sync,
+        H: Net<Listener = TcpListener, Stream = TcpStream> + Threads + Wait + Clock + Eprint + Sync,
     >(&self, rt: &H, alloc: Global, port: u16) -> io::Result<bool> {
         beside_garbage(rt, alloc, port, &connect(rt, port)?)
     }
@@ -98,8 +92,6 @@ fn others_go_on(rt: HostRuntime) {
         connections: 4,
         journal: 1000,
         lanes: Some(64),
-        drain: None,
-        stats: None,
     };
     let ended = closed(&rt, rt.alloc(), ONE_QUEUE, &sizes, GateOf::Open, &Hostile);
     assert!(rt; matches!(ended, Some((epochs, _)) if epochs >= 2));

@@ -4,7 +4,7 @@ use crate::side::listen;
 use cap_daemon::{Counted, run};
 use std::alloc::Global;
 use std::fs;
-use std::io::{self, Input, Read};
+use std::io::{self, Read};
 use std::net::{Net, TcpListener, TcpStream};
 use std::rt::Files;
 use std::sync::Wait;
@@ -22,7 +22,6 @@ fn run_words<
         + Wait
         + Clock
         + Eprint
-        + Input
         + Files
         + AllocGlobal
         + Sync,
@@ -61,10 +60,8 @@ const JOURNAL: usize = 11;
 
 const LANES: usize = 13;
 
-const DRAIN: usize = 15;
-
 /// The words of a daemon without a settings file. No port is bound before that file is read.
-const WORDS: [&str; 16] = [
+const WORDS: [&str; 14] = [
     "capsched",
     "serve",
     "--port",
@@ -79,12 +76,10 @@ const WORDS: [&str; 16] = [
     "4",
     "--lanes",
     "64",
-    "--drain",
-    "10",
 ];
 
 /// The same with another value in one place.
-fn with_value<'a>(words: &[&'a str; 16], place: usize, value: &'a str) -> [&'a str; 16] {
+fn with_value<'a>(words: &[&'a str; 14], place: usize, value: &'a str) -> [&'a str; 14] {
     let mut words = *words;
     if let Some(word) = words.get_mut(place) {
         *word = value;
@@ -93,7 +88,7 @@ fn with_value<'a>(words: &[&'a str; 16], place: usize, value: &'a str) -> [&'a s
 }
 
 /// Each option at its bounds and past them, and whether that is taken.
-static OPTIONS: [(usize, &str, bool); 25] = [
+static OPTIONS: [(usize, &str, bool); 22] = [
     (PORT, "0", false),
     (PORT, "1", true),
     (PORT, "65535", true),
@@ -116,9 +111,6 @@ static OPTIONS: [(usize, &str, bool); 25] = [
     (LANES, "8", true),
     (LANES, "1024", true),
     (LANES, "1025", false),
-    (DRAIN, "0", true),
-    (DRAIN, "3600", true),
-    (DRAIN, "3601", false),
 ];
 
 /// Whether the words with this value are taken. `None` if the program says neither.
@@ -128,7 +120,6 @@ fn takes<
         + Wait
         + Clock
         + Eprint
-        + Input
         + Files
         + AllocGlobal
         + Sync,
@@ -175,7 +166,6 @@ fn is_told<
         + Wait
         + Clock
         + Eprint
-        + Input
         + Files
         + AllocGlobal
         + Sync,
@@ -263,7 +253,6 @@ fn beside_program<
         + Wait
         + Clock
         + Eprint
-        + Input
         + Files
         + AllocGlobal
         + Sync,
@@ -284,7 +273,6 @@ fn visited_on<
         + Wait
         + Clock
         + Eprint
-        + Input
         + Files
         + AllocGlobal
         + Sync,
@@ -310,7 +298,6 @@ fn visited<
         + Wait
         + Clock
         + Eprint
-        + Input
         + Files
         + AllocGlobal
         + Sync,

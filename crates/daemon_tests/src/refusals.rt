@@ -6,7 +6,7 @@ use cap_server::Sizes;
 use cap_testing::{Call, Mark, frame};
 use memory_testing::Hoard;
 use std::alloc::Global;
-use std::io::{self, Input, Read};
+use std::io::{self, Read};
 use std::net::{Net, TcpListener, TcpStream};
 use std::sync::{Mutex, Wait};
 use std::test::*;
@@ -68,13 +68,7 @@ impl Starving<'_> {
 
 impl Client for Starving<'_> {
     fn talk<
-        H: Net<Listener = TcpListener, Stream = TcpStream>
-            + Threads
-            + Wait
-            + Clock
-            + Eprint
-            + Input
-            + Sync,
+        H: Net<Listener = TcpListener, Stream = TcpStream> + Threads + Wait + Clock + Eprint + Sync,
     >(&self, rt: &H, alloc: Global, port: u16) -> io::Result<bool> {
         let node = frame(
             alloc,
@@ -101,8 +95,6 @@ fn served_without_memory(rt: HostRuntime) {
         connections: 2,
         journal: 4096,
         lanes: None,
-        drain: None,
-        stats: None,
     };
     let Some(hoard) = Hoard::beside_threads(rt.alloc(), THREADS) else {
         return assert!(rt; false, "no hoard");
@@ -141,13 +133,7 @@ impl Filling {
 
 impl Client for Filling {
     fn talk<
-        H: Net<Listener = TcpListener, Stream = TcpStream>
-            + Threads
-            + Wait
-            + Clock
-            + Eprint
-            + Input
-            + Sync,
+        H: Net<Listener = TcpListener, Stream = TcpStream> + Threads + Wait + Clock + Eprint + Sync,
     >(&self, rt: &H, alloc: Global, port: u16) -> io::Result<bool> {
         self.fill(rt, alloc, &connect(rt, port)?)
     }
@@ -160,8 +146,6 @@ fn no_next_epoch(rt: HostRuntime) {
         connections: 1,
         journal: 4,
         lanes: None,
-        drain: None,
-        stats: None,
     };
     let Some(hoard) = Hoard::beside_threads(rt.alloc(), THREADS) else {
         return assert!(rt; false, "no hoard");

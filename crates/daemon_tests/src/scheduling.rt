@@ -7,7 +7,7 @@ use cap_server::Sizes;
 use cap_testing::{Call, TWO_QUEUES, WantedContainers};
 use cap_workers::Tally;
 use std::alloc::Global;
-use std::io::{self, Input};
+use std::io;
 use std::net::{Net, TcpListener, TcpStream};
 use std::sync::Wait;
 use std::sync::atomic::{AtomicU64, Ordering};
@@ -95,13 +95,7 @@ impl Master {
 
 impl Client for Master {
     fn talk<
-        H: Net<Listener = TcpListener, Stream = TcpStream>
-            + Threads
-            + Wait
-            + Clock
-            + Eprint
-            + Input
-            + Sync,
+        H: Net<Listener = TcpListener, Stream = TcpStream> + Threads + Wait + Clock + Eprint + Sync,
     >(&self, rt: &H, alloc: Global, port: u16) -> io::Result<bool> {
         let stream = connect(rt, port)?;
         self.register(alloc, &stream)?;
@@ -113,21 +107,13 @@ impl Client for Master {
 /// Whether the master is told its ten grants, as many proposals were made, and the journal has an entry for each of its calls and for each
 /// grant, and no more.
 fn scheduled<
-    H: Net<Listener = TcpListener, Stream = TcpStream>
-        + Threads
-        + Wait
-        + Clock
-        + Eprint
-        + Input
-        + Sync,
+    H: Net<Listener = TcpListener, Stream = TcpStream> + Threads + Wait + Clock + Eprint + Sync,
 >(rt: &H, alloc: Global, workers: u32, lanes: Option<usize>) -> bool {
     let sizes = Sizes {
         workers,
         connections: 1,
         journal: 4096,
         lanes,
-        drain: None,
-        stats: None,
     };
     let master = Master {
         calls: AtomicU64::new(0),
@@ -158,13 +144,7 @@ struct Witness<'a> {
 
 impl Client for Witness<'_> {
     fn talk<
-        H: Net<Listener = TcpListener, Stream = TcpStream>
-            + Threads
-            + Wait
-            + Clock
-            + Eprint
-            + Input
-            + Sync,
+        H: Net<Listener = TcpListener, Stream = TcpStream> + Threads + Wait + Clock + Eprint + Sync,
     >(&self, rt: &H, alloc: Global, port: u16) -> io::Result<bool> {
         let stream = connect(rt, port)?;
         let master = Master {
@@ -184,8 +164,6 @@ fn each_proposal_is_committed(rt: HostRuntime) {
         connections: 1,
         journal: 5,
         lanes: Some(64),
-        drain: None,
-        stats: None,
     };
     let gate = Committing::new();
     let client = Witness { gate: &gate };
@@ -204,13 +182,7 @@ struct LateMaster<'a> {
 
 impl Client for LateMaster<'_> {
     fn talk<
-        H: Net<Listener = TcpListener, Stream = TcpStream>
-            + Threads
-            + Wait
-            + Clock
-            + Eprint
-            + Input
-            + Sync,
+        H: Net<Listener = TcpListener, Stream = TcpStream> + Threads + Wait + Clock + Eprint + Sync,
     >(&self, rt: &H, alloc: Global, port: u16) -> io::Result<bool> {
         let stream = connect(rt, port)?;
         let has_begun = self.gate.copied.awaits(1);
@@ -228,8 +200,6 @@ fn workers_keep_their_lanes_from_epoch_to_epoch(rt: HostRuntime) {
         connections: 1,
         journal: 4,
         lanes: Some(64),
-        drain: None,
-        stats: None,
     };
     let gate = OwnLanes::new();
     let client = LateMaster {

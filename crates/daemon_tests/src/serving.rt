@@ -8,7 +8,7 @@ use crate::side::{Client, ends};
 use cap_server::Sizes;
 use cap_testing::{Call, Mark};
 use std::alloc::Global;
-use std::io::{self, Input};
+use std::io;
 use std::net::{Net, TcpListener, TcpStream};
 use std::sync::Wait;
 use std::test::*;
@@ -90,13 +90,7 @@ fn has_one_node(alloc: Global, stream: &TcpStream) -> io::Result<bool> {
 
 impl Client for Visit {
     fn talk<
-        H: Net<Listener = TcpListener, Stream = TcpStream>
-            + Threads
-            + Wait
-            + Clock
-            + Eprint
-            + Input
-            + Sync,
+        H: Net<Listener = TcpListener, Stream = TcpStream> + Threads + Wait + Clock + Eprint + Sync,
     >(&self, rt: &H, alloc: Global, port: u16) -> io::Result<bool> {
         match *self {
             Visit::Asks(count) => are_answered(alloc, &connect(rt, port)?, count),
@@ -141,8 +135,6 @@ fn connections_are_answered(rt: HostRuntime) {
             connections,
             journal,
             lanes,
-            drain: None,
-            stats: None,
         };
         let is_right = ends(&rt, rt.alloc(), &sizes, GateOf::Open, &visit, (0, line));
         assert!(rt; is_right, "{connections} {journal} {line}");
@@ -157,13 +149,7 @@ struct Witness<'a> {
 
 impl Client for Witness<'_> {
     fn talk<
-        H: Net<Listener = TcpListener, Stream = TcpStream>
-            + Threads
-            + Wait
-            + Clock
-            + Eprint
-            + Input
-            + Sync,
+        H: Net<Listener = TcpListener, Stream = TcpStream> + Threads + Wait + Clock + Eprint + Sync,
     >(&self, rt: &H, _alloc: Global, port: u16) -> io::Result<bool> {
         let stream = connect(rt, port)?;
         Ok(self.both.awaits(1) && is_answered(&stream)?)
@@ -179,8 +165,6 @@ fn two_workers_propose_at_once(rt: HostRuntime) {
             connections: 1,
             journal: 4096,
             lanes,
-            drain: None,
-            stats: None,
         };
         let gate = Meeting {
             first: Mark::new(),
@@ -231,13 +215,7 @@ impl BesideHeld<'_> {
 
 impl Client for BesideHeld<'_> {
     fn talk<
-        H: Net<Listener = TcpListener, Stream = TcpStream>
-            + Threads
-            + Wait
-            + Clock
-            + Eprint
-            + Input
-            + Sync,
+        H: Net<Listener = TcpListener, Stream = TcpStream> + Threads + Wait + Clock + Eprint + Sync,
     >(&self, rt: &H, _alloc: Global, port: u16) -> io::Result<bool> {
         let stream = connect(rt, port)?;
         if self.is_ahead {
@@ -259,8 +237,6 @@ fn calls_are_answered_while_a_worker_is_held(rt: HostRuntime) {
             connections: 1,
             journal,
             lanes: None,
-            drain: None,
-            stats: None,
         };
         let gate = Holding {
             held: Mark::new(),

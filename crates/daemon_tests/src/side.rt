@@ -4,7 +4,7 @@ use cap_config::read_config;
 use cap_server::{Sizes, serve_on};
 use cap_session::Counted;
 use std::alloc::Global;
-use std::io::{self, Input};
+use std::io;
 use std::net::{Net, TcpListener, TcpStream};
 use std::sync::Wait;
 use std::thread::{Threads, join};
@@ -17,13 +17,7 @@ pub const ONE_QUEUE: &[u8] = b"yarn.scheduler.capacity.root.queues=default";
 pub trait Client {
     /// Opens the connections, and says whether all was answered as it has to be. An error means that a socket failed.
     fn talk<
-        H: Net<Listener = TcpListener, Stream = TcpStream>
-            + Threads
-            + Wait
-            + Clock
-            + Eprint
-            + Input
-            + Sync,
+        H: Net<Listener = TcpListener, Stream = TcpStream> + Threads + Wait + Clock + Eprint + Sync,
     >(&self, rt: &H, alloc: Global, port: u16) -> io::Result<bool>;
 }
 
@@ -47,13 +41,7 @@ pub fn listen<H: Net<Listener = TcpListener, Stream = TcpStream>>(
 /// Runs a daemon with the queues of these property lines on a port of the loopback, in a thread of its own, and the client beside it.
 /// `None` if the lines have a fault, or the system has no port.
 fn beside_daemon<
-    H: Net<Listener = TcpListener, Stream = TcpStream>
-        + Threads
-        + Wait
-        + Clock
-        + Eprint
-        + Input
-        + Sync,
+    H: Net<Listener = TcpListener, Stream = TcpStream> + Threads + Wait + Clock + Eprint + Sync,
     C: Client + Sync,
 >(
     rt: &H,
@@ -80,7 +68,7 @@ fn beside_daemon<
 const PRINTED_MAX: usize = 200;
 
 /// The daemon's exit status, and what it printed. The status is 2 if the lines have a fault, or if a size is out of its bounds.
-pub fn served<H: Net + Threads + Wait + Clock + Eprint + Input + Sync>(
+pub fn served<H: Net + Threads + Wait + Clock + Eprint + Sync>(
     rt: &H,
     alloc: Global,
     lines: &[u8],
@@ -132,13 +120,7 @@ pub fn closed_by(outcome: &Outcome) -> Option<(u64, u64)> {
 
 /// Whether a daemon ends with this status and last line, and its client says that all was answered as it has to be.
 pub fn ends<
-    H: Net<Listener = TcpListener, Stream = TcpStream>
-        + Threads
-        + Wait
-        + Clock
-        + Eprint
-        + Input
-        + Sync,
+    H: Net<Listener = TcpListener, Stream = TcpStream> + Threads + Wait + Clock + Eprint + Sync,
     C: Client + Sync,
 >(
     rt: &H,
@@ -156,13 +138,7 @@ pub fn ends<
 
 /// How many epochs a daemon with these queues closes beside this client, with how many entries in all, as `closed_by`.
 pub fn closed<
-    H: Net<Listener = TcpListener, Stream = TcpStream>
-        + Threads
-        + Wait
-        + Clock
-        + Eprint
-        + Input
-        + Sync,
+    H: Net<Listener = TcpListener, Stream = TcpStream> + Threads + Wait + Clock + Eprint + Sync,
     C: Client + Sync,
 >(
     rt: &H,

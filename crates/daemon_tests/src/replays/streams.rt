@@ -4,7 +4,7 @@ use cap_daemon::{Counted, run};
 use refusal_cases::{count_lines, line_of, play_into};
 use std::alloc::{AllocError, Global};
 use std::cell::Cell;
-use std::io::{self, Input, Read, Write};
+use std::io::{self, Read, Write};
 use std::net::{Net, TcpListener, TcpStream};
 use std::rt::Files;
 use std::sync::Wait;
@@ -149,7 +149,6 @@ fn plays<
         + Wait
         + Clock
         + Eprint
-        + Input
         + Files
         + AllocGlobal
         + Sync,
@@ -190,7 +189,6 @@ fn unlike<
         + Wait
         + Clock
         + Eprint
-        + Input
         + Files
         + AllocGlobal
         + Sync,
