@@ -53,7 +53,19 @@ pub fn came<H: Wait>(
     }
 }
 
-/// A Submit, a second Allocate under another key, a grant, a turn, an offer, a snapshot that is shown, the opening of an epoch, and lanes.
+/// Eight more asks than the application has, each under a key of its own.
+const EIGHT_MORE: &[WantedContainers<'static>] = &[
+    WantedContainers { request: 1, ..ONE },
+    WantedContainers { request: 2, ..ONE },
+    WantedContainers { request: 3, ..ONE },
+    WantedContainers { request: 4, ..ONE },
+    WantedContainers { request: 5, ..ONE },
+    WantedContainers { request: 6, ..ONE },
+    WantedContainers { request: 7, ..ONE },
+    WantedContainers { request: 8, ..ONE },
+];
+
+/// A Submit, a second Allocate of eight more asks, a grant, a turn, an offer, a snapshot that is shown, the opening of an epoch, and lanes.
 pub static TASKS: [Case; 8] = [
     Case::Task(
         Before::Nothing,
@@ -61,7 +73,7 @@ pub static TASKS: [Case; 8] = [
     ),
     Case::Task(
         Before::Asking,
-        Task::Act(Act::Call(Call::Allocate(1, 1, &[WantedContainers { request: 1, ..ONE }], &[]))),
+        Task::Act(Act::Call(Call::Allocate(1, 1, EIGHT_MORE, &[]))),
     ),
     Case::Task(Before::Asking, Task::Act(Act::Commit)),
     Case::Task(Before::Asking, Task::Act(Act::Turn)),
