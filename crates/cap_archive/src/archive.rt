@@ -1,10 +1,11 @@
 //! Property lines and closed epochs, written out to a file that `capsched audit` reads (`write_settings`, `write_epoch`).
 ghost use Rattle.std.specs.Prelude.{◌≡◌, ◌++◌, IfOk, OnOk};
 ghost use Rattle.std.specs.Io.KnownBytes.{Appends};
+ghost use Rattle.std.specs.Str.Lines.{lines};
 ghost use Rattle.cap_journal.specs.Lines.{closed_words, ended, epoch_text, epoch_words, event_words};
 ghost use Rattle.cap_session.specs.Counted.{state_of, inner_of, CanCount};
 ghost use Rattle.cap_shared.specs.Journal.{events_in};
-ghost use Rattle.cap_archive.specs.Archive.{Passes};
+ghost use Rattle.cap_archive.specs.Archive.{Passes, settings_lines};
 ghost use Rattle.cap_archive.specs.declared.archive.ArchiveFault.TheVariants.{NoMemory as out_of_memory};
 
 use cap_journal::{LineFault, put_closed, put_epoch, put_event, put_property};
@@ -43,6 +44,9 @@ pub fn write_settings<W: Write>(
     writer: &mut Counted<W>,
 ) -> Result<(), ArchiveFault>
     requires { CanCount (state_of writer.old) }
+    ensures bytes { OnOk result (Appends (W.contents (inner_of writer.old))
+        (W.contents (inner_of writer.new)) (settings_lines (lines text.now))) }
+    ensures counts { OnOk result (CanCount (state_of writer.new)) }
 {
     let mut lines = Vec::new(alloc);
     let mut rest = text;
@@ -64,8 +68,9 @@ pub fn write_epoch<W: Write>(
     writer: &mut Counted<W>,
 ) -> Result<(), ArchiveFault>
     requires { CanCount (state_of writer.old) }
-    ensures { OnOk result (Appends (W.contents (inner_of writer.old))
+    ensures bytes { OnOk result (Appends (W.contents (inner_of writer.old))
         (W.contents (inner_of writer.new)) (epoch_text number (events_in journal.now))) }
+    ensures counts { OnOk result (CanCount (state_of writer.new)) }
 {
     let mut lines = first_line(alloc, number)?;
     for entry in journal {

@@ -11,8 +11,8 @@ loop-entry-preserved g c =
       counts = c.in_ok-pass_on.ensures.counts;
     }
 
-pub returns : goal.returns
-returns g c =
+pub returns-clause-bytes : goal.returns-clause-bytes
+returns-clause-bytes g c =
     let before = c.loop-entry.invariant.passes in
     on_ok c.write_lines.result c.write_lines.ensures.bytes (λ written.
     ends_epoch (g.W.Write.contents (inner_of c.args.writer.now)) (g.W.Write.contents (inner_of c.loop-entry.writer)) (g.W.Write.contents (inner_of c.write_lines.new.writer)) c.args.number c.args.journal.now c.loop-entry.entry-index before.0 c.loop-entry.lines.items c.deref.result.now c.loop-entry-test.false before.1 before.2 (c.deref.ensures.value ∙ c.in_ok-put_last.ensures) written)
