@@ -2,12 +2,13 @@
 ghost use Rattle.std.specs.Prelude.{◌≡◌, ◌<◌};
 ghost use Rattle.cap_session.specs.Counted.{state_of, CanCount};
 
-use crate::serve::{serve, serve_command};
+use crate::serve::{no_memory, serve, serve_command};
 use cap_commands::{Counted, command_line, explain_failure, perform, report};
 use clap::Command;
 use std::alloc::{AllocError, Global};
 use std::convert::AsStr;
-use std::io::{Read, Write};
+use std::fs::File;
+use std::io::{Input, Read, Write};
 use std::net::{Net, TcpListener, TcpStream};
 use std::rt::Files;
 use std::sync::Wait;
@@ -23,7 +24,8 @@ pub fn run<
         + Wait
         + Clock
         + Eprint
-        + Files
+        + Input
+        + Files<File = File>
         + AllocGlobal
         + Sync,
     S: AsStr,
@@ -43,14 +45,17 @@ pub fn run<
 {
     let alloc = rt.alloc();
     let Ok(command) = with_serve(alloc) else {
-        return 3;
+        return no_memory(writer);
     };
     let status = match command.try_get_matches_from(words) {
         Ok(matches) => match matches.subcommand() {
             Some(("serve", matches)) => serve(rt, matches, writer, complaint),
             _ => perform(alloc, &matches, reader, writer, complaint),
         },
-        Err(error) => report(alloc, &error, writer, complaint),
+        Err(error) => match report(alloc, &error, writer, complaint) {
+            3 => no_memory(writer),
+            status => status,
+        },
     };
     explain_failure(alloc, status, reader, writer, complaint);
     status
