@@ -4,7 +4,7 @@ ghost use Rattle.cap_server.specs.Bounds.{IsAllowed};
 ghost use Rattle.cap_session.specs.Counted.{state_of, CanCount};
 
 use cap_base::RESOURCES;
-use cap_commands::{complain, print};
+use cap_commands::{complain, no_memory, print};
 use cap_config::{Config, ConfigFaultKind, DetailedFault, read_detailed};
 use cap_records::AuditFile;
 use cap_server::{Opened, Sizes, serve_on};
@@ -267,18 +267,6 @@ fn open_audit<H: Files<File = File> + AllocGlobal>(
     };
     let file = File::create(rt, path)?;
     Ok(Some(AuditFile::begin(rt.alloc(), file, settings)?))
-}
-
-/// Prints that an allocation failed. The result is the exit status: 3, or 1 if the writer failed.
-pub(crate) fn no_memory<W: Write>(writer: &mut Counted<W>) -> u8
-    requires { CanCount (state_of writer.old) }
-    ensures status { result < 4 }
-    ensures failed { (state_of writer.old).failures < (state_of writer.new).failures → result ≡ 1 }
-{
-    match print(writer, b"no memory\n") {
-        0 => 3,
-        failed => failed,
-    }
 }
 
 /// Leaves in `complaint` how many proposals were made and rejected.

@@ -2,8 +2,8 @@
 ghost use Rattle.std.specs.Prelude.{◌≡◌, ◌<◌};
 ghost use Rattle.cap_session.specs.Counted.{state_of, CanCount};
 
-use crate::serve::{no_memory, serve, serve_command};
-use cap_commands::{Counted, command_line, explain_failure, perform, report};
+use crate::serve::{serve, serve_command};
+use cap_commands::{Counted, command_line, explain_failure, no_memory, perform, report};
 use clap::Command;
 use std::alloc::{AllocError, Global};
 use std::convert::AsStr;
@@ -52,10 +52,7 @@ pub fn run<
             Some(("serve", matches)) => serve(rt, matches, writer, complaint),
             _ => perform(alloc, &matches, reader, writer, complaint),
         },
-        Err(error) => match report(alloc, &error, writer, complaint) {
-            3 => no_memory(writer),
-            status => status,
-        },
+        Err(error) => report(alloc, &error, writer, complaint),
     };
     explain_failure(alloc, status, reader, writer, complaint);
     status

@@ -1,8 +1,10 @@
-//! The audit file of a daemon, which its closed epochs are written to (`AuditFile`, `AuditTrail`).
+//! What becomes of the closed epochs of a daemon: they are written to its audit file (`AuditFile`, `AuditTrail`), and counted (`Stats`).
 #![tactic(auto)]
 
 mod audit_file;
+mod stats;
 mod trail;
 
 pub use audit_file::AuditFile;
+pub use stats::Stats;
 pub use trail::AuditTrail;

@@ -6,9 +6,9 @@ mod connection;
 mod epoch;
 mod participants;
 mod places;
+mod rejections;
 mod serving;
 mod state;
-mod stats;
 mod task;
 mod threads;
 

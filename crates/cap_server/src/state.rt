@@ -3,10 +3,10 @@ ghost use Rattle.std.specs.Prelude.{◌≡◌, ◌<◌, ◌≤◌, IfSome};
 ghost use Rattle.std.specs.Option.{ForSome};
 ghost use Rattle.cap_server.specs.Bounds.{IsAllowed};
 
+use crate::rejections::Rejections;
 use crate::serving::Sizes;
-use crate::stats::{Rejections, Stats};
 use crate::task::Records;
-use cap_records::{AuditFile, AuditTrail};
+use cap_records::{AuditFile, AuditTrail, Stats};
 use cap_shared::{Naming, Shared};
 use cap_streams::EndSignal;
 use mio::Waker;

@@ -1,8 +1,6 @@
 //! What a daemon has done since it began, told each so often (`Stats`).
 use cap_model::Event;
 use cap_shared::Entry;
-use cap_workers::{CommitOutcome, Gate, Point};
-use std::sync::atomic::{AtomicU64, Ordering};
 use std::time::{Clock, Duration, Instant};
 
 /// What the daemon has done in the epochs that were closed.
@@ -17,42 +15,11 @@ struct Counts {
 /// Tells standard error what was done since the daemon began, each so often. All counts but those of rejections and connections are of
 /// epochs that were closed: where it is time an epoch ends early for it.
 #[derive(Drop)]
-pub(crate) struct Stats {
+pub struct Stats {
     every: Duration,
     /// When it was last told.
     told: Option<Instant>,
     counts: Counts,
-}
-
-/// Counts the proposals that were rejected, and passes on each point to another gate.
-#[derive(Drop)]
-pub(crate) struct Rejections<'a, G> {
-    gate: &'a G,
-    rejected: AtomicU64,
-}
-
-impl<'a, G> Rejections<'a, G> {
-    /// None was rejected.
-    pub(crate) fn new(gate: &'a G) -> Rejections<'a, G> {
-        Rejections {
-            gate,
-            rejected: AtomicU64::new(0),
-        }
-    }
-
-    /// How many were rejected.
-    pub(crate) fn count(&self) -> u64 {
-        self.rejected.load(Ordering::SeqCst)
-    }
-}
-
-impl<G: Gate> Gate for Rejections<'_, G> {
-    fn at(&self, worker: u32, point: Point) {
-        if point == Point::Committed(CommitOutcome::Rejected) {
-            self.rejected.fetch_add(1, Ordering::SeqCst);
-        }
-        self.gate.at(worker, point);
-    }
 }
 
 impl Counts {
@@ -74,7 +41,7 @@ impl Counts {
 
 impl Stats {
     /// Told each so many seconds, first so many after now.
-    pub(crate) fn new<H: Clock>(rt: &H, seconds: u32) -> Stats {
+    pub fn new<H: Clock>(rt: &H, seconds: u32) -> Stats {
         Stats {
             every: Duration::from_secs(u64::from(seconds)),
             told: Instant::now(rt).ok(),
@@ -88,12 +55,12 @@ impl Stats {
     }
 
     /// An epoch was closed that had this journal.
-    pub(crate) fn count(&mut self, journal: &[Entry]) {
+    pub fn count(&mut self, journal: &[Entry]) {
         self.counts = self.counts.with_epoch(journal);
     }
 
     /// Whether it is time to tell.
-    pub(crate) fn is_due<H: Clock>(&mut self, rt: &H) -> bool {
+    pub fn is_due<H: Clock>(&mut self, rt: &H) -> bool {
         let Ok(now) = Instant::now(rt) else {
             return false;
         };
@@ -102,7 +69,7 @@ impl Stats {
     }
 
     /// Tells what was done, and that so many proposals were rejected and connections accepted.
-    pub(crate) fn tell<H: Clock + Eprint>(&mut self, rt: &H, rejected: u64, connections: usize) {
+    pub fn tell<H: Clock + Eprint>(&mut self, rt: &H, rejected: u64, connections: usize) {
         self.told = Instant::now(rt).ok();
         let Counts {
             calls,
