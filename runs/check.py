@@ -16,6 +16,7 @@ import sys
 sys.dont_write_bytecode = True
 import daemon
 import limits
+import renewal
 import served
 
 HERE = os.path.dirname(os.path.abspath(__file__))
@@ -74,6 +75,7 @@ def main():
         print(f"{os.path.relpath(program, TOP)} limits: {limits.check(program)} scripts are answered as they must be")
         if os.path.basename(program).partition(".")[0] != OFFLINE:
             print(f"{os.path.relpath(program, TOP)} daemon: {daemon.check(program)} cases end as they must")
+            print(f"{os.path.relpath(program, TOP)} renewal: {renewal.check(program)} cases end as they must")
             replayed = [cases_of(f"{HERE}/replay", file) for file in ("cases", "answers")]
             print(f"{os.path.relpath(program, TOP)} served: {served.check(program, *replayed)} cases of replay are answered as they must be")
 

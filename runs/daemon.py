@@ -1,5 +1,5 @@
 #!/usr/bin/env python3
-"""Runs `capsched serve` where the system refuses it threads, memory or descriptors, or a client takes no answers, and looks at what it answers, prints and ends with.
+"""Runs `capsched serve` where the system refuses it threads, memory, descriptors or an audit file, or a client takes no answers, and looks at what it answers, prints and ends with.
 
 A thread is refused by a limit on the process's memory that is less than a thread's stack takes, which has a limit of its own. Beside each limit stands a
 control: with what one thread, one journal or one connection takes more, the daemon answers. With words this runs the programs that they name, else the
@@ -9,6 +9,7 @@ import os
 import re
 import resource
 import select
+import signal
 import socket
 import subprocess
 import sys
@@ -29,26 +30,31 @@ DESCRIPTORS = 7 + CONNECTION  # 0 to 2, the listener, three to wait with, and on
 EPOCH, CHANGES = 1000, 3  # how many entries an epoch has beside a client that takes nothing, and how many changes of epochs there are
 BUFFERS = 8192  # of a client that takes nothing, in bytes, so that it is soon full
 FULL = 0.5  # a socket that takes nothing for so many seconds is full; the daemon gives its client up after 5
+TRIED = 5.0  # for so many seconds it is tried to make a thread
+AUDITED, CALLS, ROOM = 4, 30, 2000  # entries of an epoch that is written to a file, calls of a client beside it, and bytes of a file which is full after some epochs
+ALLOCATIONS = 400  # more than bad words take
 SECONDS = 20  # how long a line may take on a busy machine
 SOON = 5.0  # a daemon that can't go on ends within a second; on a busy machine it may take as many more
 
 
 class Daemon:
-    """A daemon with these limits, each a kind of the module `resource` and a number. It ends with the block that it is for."""
+    """A daemon with these limits, each a kind of the module `resource` and a number, or two if it may be raised to the second, and these property lines.
+    It ends with the block that it is for."""
 
-    def __init__(self, program, words, limits):
+    def __init__(self, program, words, limits, settings=SETTINGS, given=subprocess.DEVNULL):
         self.port = free_port()
         self.config = tempfile.NamedTemporaryFile()
-        self.config.write(SETTINGS)
+        self.config.write(settings)
         self.config.flush()
         words = [program, "serve", "--port", str(self.port), "--config", self.config.name, *words]
 
         def limit():
-            for kind, most in limits:
-                resource.setrlimit(kind, (most, most))
+            signal.signal(signal.SIGXFSZ, signal.SIG_IGN)
+            for kind, *most in limits:
+                resource.setrlimit(kind, (most[0], most[-1]))
 
         self.began = time.monotonic()
-        self.process = subprocess.Popen(words, stdout=subprocess.PIPE, stderr=subprocess.PIPE, bufsize=0, preexec_fn=limit)
+        self.process = subprocess.Popen(words, stdin=given, stdout=subprocess.PIPE, stderr=subprocess.PIPE, bufsize=0, preexec_fn=limit)
         self.listening = line_of(self.process)
 
     def __enter__(self):
@@ -144,11 +150,11 @@ def expect(holds, what, seen):
         sys.exit(f"{what}: {seen}")
 
 
-def expect_no_memory(program, words, limits, what):
-    """A daemon with these limits ends soon, for want of memory."""
+def expect_no_memory(program, words, limits, what, tried=0.0):
+    """A daemon with these limits ends soon, for want of memory, once it has tried again for so many seconds."""
     with Daemon(program, words, limits) as daemon:
         seen = daemon.ended()
-    expect(seen[0] == b"no memory\n" and seen[2] == 3 and seen[3] < SOON, what, seen)
+    expect(seen[0] == b"no memory\n" and seen[2] == 3 and tried < seen[3] < tried + SOON, what, seen)
 
 
 def expect_answers(program, words, limits, count, what):
@@ -169,9 +175,25 @@ def check_threads(program):
     words, refused = ["--workers", "8"], (0, 1, 2, 5, THREADS - 1)
     limits = [[(resource.RLIMIT_STACK, GIB), (resource.RLIMIT_AS, count * GIB + GIB // 2)] for count in (*refused, THREADS)]
     for count, limit in zip(refused, limits):
-        expect_no_memory(program, [*words, "--connections", "1"], limit, f"{count} threads at most")
+        expect_no_memory(program, [*words, "--connections", "1"], limit, f"{count} threads at most", TRIED * 0.9)
     expect_answers(program, words, limits[-1], 1, f"{THREADS} threads")
-    return len(limits)
+    return len(limits) + check_shortage(program, words)
+
+
+def check_shortage(program, words):
+    """The threads of the committer and of the workers can't be made at first: it is tried again, and nothing ends."""
+    what = "a passing shortage of threads"
+    few, enough = GIB + GIB // 2, (THREADS + 1) * GIB
+    with Daemon(program, [*words, "--connections", "1"], [(resource.RLIMIT_STACK, GIB), (resource.RLIMIT_AS, few, enough)]) as daemon:
+        client = daemon.connect()
+        time.sleep(TRIED / 5)
+        resource.prlimit(daemon.process.pid, resource.RLIMIT_AS, (enough, enough))
+        answered = is_answered(client)
+        client.close()
+        seen = daemon.ended()
+    expect(answered and seen[0] == b"closed epochs=1 entries=1\n" and seen[2] == 0, what, seen)
+    expect(seen[1].startswith(b"scheduling: no thread can be made"), f"words for {what}", seen)
+    return 1
 
 
 def check_memory(program):
@@ -223,6 +245,66 @@ def check_backlog(program):
     return 1
 
 
+def check_waiting(program):
+    """There is no descriptor to wait for the listener with: it is said so."""
+    what = "no descriptor to wait with"
+    with Daemon(program, ["--workers", "1", "--connections", "1"], [(resource.RLIMIT_NOFILE, DESCRIPTORS - CONNECTION - 2)]) as daemon:
+        seen = daemon.ended()
+    expect(seen[0] == b"" and seen[2] == 1 and seen[1].startswith(b"listener: it can't be waited for: ") and seen[3] < SOON, what, seen)
+    return 1
+
+
+def audited(program, path):
+    """What an audit of this file prints."""
+    with open(path, "rb") as file:
+        seen = subprocess.run([program, "audit"], stdin=file, capture_output=True, timeout=SECONDS)
+    expect(seen.returncode == 0, "an audit", seen)
+    return seen.stdout
+
+
+def check_audit(program):
+    """Closed epochs are written to a file, and all of them are true; where it is full those that were written stay."""
+    words = ["--workers", "1", "--connections", "1", "--journal", str(AUDITED), "--audit"]
+    with tempfile.TemporaryDirectory() as folder:
+        path = f"{folder}/epochs.audit"
+        for what, limits, status in (("an audit file", [], 0), ("an audit file that is full", [(resource.RLIMIT_FSIZE, ROOM)], 1)):
+            with Daemon(program, [*words, path], limits) as daemon:
+                client = daemon.connect()
+                answered = [is_answered(client) for _ in range(CALLS)]
+                client.close()
+                seen = daemon.ended()
+            epochs = CALLS // AUDITED + 1 if status == 0 else int(re.match(rb"audited epochs=(\d+)", audited(program, path)).group(1))
+            entries = CALLS if status == 0 else epochs * AUDITED
+            said = b"audited epochs=%d entries=%d calls=%d grants=0 reservations=0\n" % (epochs, entries, entries)
+            expect(audited(program, path) == said, what, audited(program, path))
+            expect(seen[2] == status and all(answered) == (status == 0) and seen[3] < SOON, what, seen)
+            if status == 0:
+                expect(seen[0] == b"closed epochs=%d entries=%d\n" % (epochs, entries), what, seen)
+            else:
+                expect(0 < epochs < CALLS // AUDITED and re.search(rb"^audit file: ", seen[1], re.M), what, (epochs, seen))
+        for place in (folder, "/dev/full", f"{folder}/none/epochs.audit"):
+            with Daemon(program, [*words, place], []) as daemon:
+                seen = daemon.ended()
+            expect(daemon.listening == b"" and seen[0] == b"" and seen[2] == 1 and seen[1].startswith(b"audit file: "), place, seen)
+    return 5
+
+
+def check_words(program):
+    """Each allocation is refused alone that the words take, bad ones, which are else refused in words."""
+    words = [program, "serve", "--port", "0", "--workers", "1", "--config", "x", "--connections", "1"]
+    with tempfile.TemporaryDirectory() as folder:
+        allocator = f"{folder}/refuse_nth.so"
+        subprocess.run(["cc", "-O2", "-shared", "-fPIC", "-o", allocator, f"{HERE}/refuse_nth.c"], check=True)
+        for number in range(1, ALLOCATIONS):
+            environment = {"LD_PRELOAD": allocator, "REFUSED": str(number)}
+            seen = subprocess.run(words, env=environment, capture_output=True, timeout=SECONDS)
+            if seen.returncode == 2:
+                break
+            expect((seen.returncode, seen.stdout, seen.stderr) == (3, b"no memory\n", b""), f"words without allocation {number}", seen)
+    expect(1 < number < ALLOCATIONS - 1 and seen.stderr.startswith(b"error: "), "bad words", (number, seen))
+    return 1
+
+
 def check_last(program):
     """A client that comes after the last connection is refused, and does not hang."""
     with Daemon(program, ["--workers", "1", "--connections", "1"], []) as daemon:
@@ -244,7 +326,8 @@ def check_last(program):
 
 
 def check(program):
-    return check_threads(program) + check_memory(program) + check_descriptors(program) + check_backlog(program) + check_last(program)
+    checks = (check_threads, check_memory, check_descriptors, check_backlog, check_last, check_waiting, check_audit, check_words)
+    return sum(it(program) for it in checks)
 
 
 def main():

@@ -3,7 +3,7 @@ ghost use Rattle.std.specs.Prelude.{◌≡◌, ◌<◌};
 ghost use Rattle.cap_session.specs.Counted.{state_of, CanCount};
 
 use crate::streams::explain_streams;
-use crate::texts::{check_settings, explain_lines, print};
+use crate::texts::{check_settings, explain_lines, no_memory, print};
 use cap_audit::audit;
 use cap_replay::replay_with_words;
 use cap_session::Counted;
@@ -16,8 +16,9 @@ use std::io::{Read, Write};
 /// Runs the program on the words of its command line, of which the first is its own name: `replay` plays a script, `check` looks at
 /// property lines, `explain` puts words under the lines of a script or of what `replay` printed, `audit` plays an audit file. The
 /// result is the exit status: 0 done; 1 a stream failed; 2 bad words, a bad line of a script, a fault of its settings or a false
-/// audit file; 3 an allocation failed. What was wrong is left in words in `complaint`, for the error stream: with status 2, but for
-/// an audit, and with status 1 the stream and the system's error. Help and the version are written to the writer.
+/// audit file; 3 an allocation failed, which is printed where the words found no memory. What was wrong is left in words in `complaint`, for
+/// the error stream: with status 2, but for an audit, and with status 1 the stream and the system's error. Help and the version are written to
+/// the writer.
 pub fn run<'a, S: AsStr, R: Read, W: Write>(
     alloc: Global,
     words: &'a [S],
@@ -31,7 +32,7 @@ pub fn run<'a, S: AsStr, R: Read, W: Write>(
     ensures failed { (state_of writer.old).failures < (state_of writer.new).failures → result ≡ 1 }
 {
     let Ok(command) = command_line(alloc, None) else {
-        return 3;
+        return no_memory(writer);
     };
     let status = match command.try_get_matches_from(words) {
         Ok(matches) => perform(alloc, &matches, reader, writer, complaint),
@@ -127,7 +128,8 @@ fn audit_command<'a>(alloc: Global) -> Command<'a> {
     )
 }
 
-/// Writes help and the version to the writer, and leaves the text for bad words in `complaint`. The result is the exit status.
+/// Writes help and the version to the writer, and leaves the text for bad words in `complaint`. Prints `no memory` where an allocation failed. The
+/// result is the exit status.
 pub fn report<W: Write>(
     alloc: Global,
     error: &Error,
@@ -139,15 +141,15 @@ pub fn report<W: Write>(
     ensures failed { (state_of writer.old).failures < (state_of writer.new).failures → result ≡ 1 }
 {
     if error.kind() == ErrorKind::OutOfMemory {
-        return 3;
+        return no_memory(writer);
     }
     let Ok(text) = error.to_string(alloc) else {
-        return 3;
+        return no_memory(writer);
     };
     if error.use_stderr() {
         return match complaint.push_str(text.as_str()) {
             Ok(()) => 2,
-            Err(_) => 3,
+            Err(_) => no_memory(writer),
         };
     }
     print(writer, text.as_bytes())

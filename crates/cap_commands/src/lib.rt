@@ -10,4 +10,4 @@ mod texts;
 pub use cap_replay::replay;
 pub use cap_session::Counted;
 pub use commands::{command_line, explain_failure, perform, report, run};
-pub use texts::{complain, print};
+pub use texts::{complain, no_memory, print};

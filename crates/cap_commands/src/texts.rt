@@ -85,3 +85,15 @@ pub fn print<W: Write>(writer: &mut Counted<W>, bytes: &[u8]) -> u8
         Err(_) => 1,
     }
 }
+
+/// Prints that an allocation failed. The result is the exit status: 3, or 1 if the writer failed.
+pub fn no_memory<W: Write>(writer: &mut Counted<W>) -> u8
+    requires { CanCount (state_of writer.old) }
+    ensures status { result < 4 }
+    ensures failed { (state_of writer.old).failures < (state_of writer.new).failures → result ≡ 1 }
+{
+    match print(writer, b"no memory\n") {
+        0 => 3,
+        failed => failed,
+    }
+}

@@ -6,5 +6,5 @@ mod serve;
 mod with_serve;
 
 pub use cap_commands::{Counted, replay};
-pub use cap_server::{Sizes, serve_on};
+pub use cap_server::{Opened, Sizes, serve_on};
 pub use with_serve::run;

@@ -4,16 +4,17 @@ ghost use Rattle.cap_server.specs.Bounds.{IsAllowed};
 ghost use Rattle.cap_session.specs.Counted.{state_of, CanCount};
 
 use cap_base::RESOURCES;
-use cap_commands::{complain, print};
+use cap_commands::{complain, no_memory, print};
 use cap_config::{Config, ConfigFaultKind, DetailedFault, read_detailed};
-use cap_server::{Sizes, serve_on};
+use cap_records::AuditFile;
+use cap_server::{Opened, Sizes, serve_on};
 use cap_session::Counted;
 use cap_workers::Tally;
 use clap::builder::ValueParser;
 use clap::{Arg, ArgAction, ArgMatches, Command};
 use std::alloc::{AllocError, Global};
-use std::fs;
-use std::io::{self, ErrorKind, Write};
+use std::fs::{self, File};
+use std::io::{self, ErrorKind, Input, Write};
 use std::net::{Net, TcpListener, TcpStream};
 use std::rt::Files;
 use std::sync::Wait;
@@ -26,6 +27,9 @@ const JOURNAL: &str = "4096";
 /// How many proposals wait for the committer, if no other number is given.
 const LANES: &str = "64";
 
+/// For how many seconds connections are served on once standard input has ended, if no other number is given.
+const DRAIN: &str = "10";
+
 /// What is said of lanes that can't hold the end of each worker.
 const FEW_LANES: &str = "error: --lanes is 0, or a number from 8 to 1024\n";
 
@@ -34,7 +38,15 @@ const FEW_LANES: &str = "error: --lanes is 0, or a number from 8 to 1024\n";
 struct Words<'a> {
     port: u16,
     config: &'a str,
+    audit: Option<&'a str>,
     sizes: Sizes,
+}
+
+/// A settings file.
+#[derive(Drop)]
+struct Settings {
+    text: Vec<u8>,
+    config: Config<RESOURCES>,
 }
 
 /// The command and its words.
@@ -49,7 +61,7 @@ pub(crate) fn serve_command<'a>(alloc: Global) -> Result<Command<'a>, AllocError
             "connections",
             1,
             128,
-            "How many connections are accepted",
+            "How many connections are accepted; with --renew, how many are served at once",
         )
         .required(true))?
         .arg(number(
@@ -67,7 +79,40 @@ pub(crate) fn serve_command<'a>(alloc: Global) -> Result<Command<'a>, AllocError
             1024,
             "How many proposals wait for the committer, at least 8; 0: each worker commits its own",
         )
-        .default_value(LANES))
+        .default_value(LANES))?
+        .arg(flag(
+            alloc,
+            "renew",
+            "The place of a connection that has ended is given to the next, until standard input ends",
+        ))?
+        .arg(number(
+            alloc,
+            "drain",
+            0,
+            3600,
+            "For how many seconds connections are served on then",
+        )
+        .default_value(DRAIN))?
+        .arg(number(
+            alloc,
+            "stats",
+            1,
+            3600,
+            "Each how many seconds standard error is told what was done since the beginning",
+        ))?
+        .arg(text(
+            alloc,
+            "audit",
+            "The file that epochs are written to as they are closed",
+        ))
+}
+
+/// A word without a value.
+fn flag<'a>(alloc: Global, name: &'a str, help: &'a str) -> Arg<'a> {
+    Arg::new(alloc, name)
+        .long(name)
+        .action(ArgAction::SetTrue)
+        .help(help)
 }
 
 /// A word that is a number within bounds.
@@ -88,14 +133,22 @@ fn read_words<'a>(matches: &ArgMatches<'a>) -> Option<Words<'a>>
     ensures { IfSome result (λ words. IsAllowed words.sizes) }
 {
     let lanes: usize = matches.get_one("lanes")?;
+    let drain: u32 = matches.get_one("drain")?;
     let words = Words {
         port: matches.get_one("port")?,
         config: matches.get_str("config")?,
+        audit: matches.get_str("audit"),
         sizes: Sizes {
             workers: matches.get_one("workers")?,
             connections: matches.get_one("connections")?,
             journal: matches.get_one("journal")?,
             lanes: if lanes == 0 { None } else { Some(lanes) },
+            drain: if matches.get_flag("renew") {
+                Some(drain)
+            } else {
+                None
+            },
+            stats: matches.get_one("stats"),
         },
     };
     if !words.sizes.is_allowed() {
@@ -105,16 +158,18 @@ fn read_words<'a>(matches: &ArgMatches<'a>) -> Option<Words<'a>>
 }
 
 /// Serves connections on a port of 127.0.0.1, over a cluster with the queues of a settings file. The result is the exit status: 0 done; 1
-/// if the writer, the settings file or the listener failed; 2 for bad words, or a fault of the settings, which is printed; 3 if an allocation failed or
+/// if the writer, the settings file, the listener or the audit file failed; 2 for bad words, or a fault of the settings, which is printed; 3 if an allocation failed or
 /// a thread could not be made, which is printed as `no memory`.
-/// What was wrong is left in words in `complaint`, except of the writer, and how many proposals were made and rejected.
+/// What was wrong is left in words in `complaint`, except of the writer, and how many proposals were made and rejected. Standard error is told at
+/// once of what fails while the daemon runs.
 pub(crate) fn serve<
     H: Net<Listener = TcpListener, Stream = TcpStream>
         + Threads
         + Wait
         + Clock
         + Eprint
-        + Files
+        + Input
+        + Files<File = File>
         + AllocGlobal
         + Sync,
     W: Write,
@@ -130,18 +185,18 @@ pub(crate) fn serve<
         };
     };
     match read_settings(rt, words.config, writer, complaint) {
-        Ok(config) => serve_settings(rt, &words, &config, writer, complaint),
+        Ok(settings) => serve_settings(rt, &words, &settings, writer, complaint),
         Err(status) => status,
     }
 }
 
-/// The settings of a file. The error is the exit status.
+/// A settings file. The error is the exit status.
 fn read_settings<H: Files + AllocGlobal, W: Write>(
     rt: &H,
     path: &str,
     writer: &mut Counted<W>,
     complaint: &mut String,
-) -> Result<Config<RESOURCES>, u8>
+) -> Result<Settings, u8>
     requires writer { CanCount (state_of writer.old) }
     ensures status { IfErr result (λ status. status < 4) }
     ensures failed { (state_of writer.old).failures < (state_of writer.new).failures
@@ -152,10 +207,10 @@ fn read_settings<H: Files + AllocGlobal, W: Write>(
     let text = match fs::read(rt, path) {
         Ok(text) => text,
         Err(error) if error.kind() == ErrorKind::OutOfMemory => return Err(no_memory(writer)),
-        Err(error) => return Err(refuse(alloc, "settings file", Some(error), complaint)),
+        Err(error) => return Err(refuse(alloc, "settings file", error, complaint)),
     };
     match read_detailed(alloc, &text) {
-        Ok(config) => Ok(config),
+        Ok(config) => Ok(Settings { text, config }),
         Err(found) => Err(refuse_settings(alloc, &text, &found, writer, complaint)),
     }
 }
@@ -167,13 +222,15 @@ fn serve_settings<
         + Wait
         + Clock
         + Eprint
+        + Input
+        + Files<File = File>
         + AllocGlobal
         + Sync,
     W: Write,
 >(
     rt: &H,
     words: &Words<'_>,
-    config: &Config<RESOURCES>,
+    settings: &Settings,
     writer: &mut Counted<W>,
     complaint: &mut String,
 ) -> u8
@@ -185,27 +242,31 @@ fn serve_settings<
     let alloc = rt.alloc();
     let listener = match TcpListener::bind(rt, ("127.0.0.1", words.port)) {
         Ok(listener) => listener,
-        Err(error) => return refuse(alloc, "listener", Some(error), complaint),
+        Err(error) => return refuse(alloc, "listener", error, complaint),
     };
-    let tally = Tally::new();
-    let status = serve_on(rt, alloc, listener, &words.sizes, config, &tally, writer);
+    let audit = match open_audit(rt, words.audit, &settings.text) {
+        Ok(audit) => audit,
+        Err(error) if error.kind() == ErrorKind::OutOfMemory => return no_memory(writer),
+        Err(error) => return refuse(alloc, "audit file", error, complaint),
+    };
+    let (opened, tally) = (Opened { listener, audit }, Tally::new());
+    let config = &settings.config;
+    let status = serve_on(rt, alloc, opened, &words.sizes, config, &tally, writer);
     report(alloc, &tally, complaint);
-    if status == 1 && writer.failures() == 0 {
-        return refuse(alloc, "listener", None, complaint);
-    }
     status
 }
 
-/// Prints that an allocation failed. The result is the exit status: 3, or 1 if the writer failed.
-fn no_memory<W: Write>(writer: &mut Counted<W>) -> u8
-    requires { CanCount (state_of writer.old) }
-    ensures status { result < 4 }
-    ensures failed { (state_of writer.old).failures < (state_of writer.new).failures → result ≡ 1 }
-{
-    match print(writer, b"no memory\n") {
-        0 => 3,
-        failed => failed,
-    }
+/// Makes the audit file, if there is to be one, and writes the property lines of the settings to it.
+fn open_audit<H: Files<File = File> + AllocGlobal>(
+    rt: &H,
+    path: Option<&str>,
+    settings: &[u8],
+) -> io::Result<Option<AuditFile<File>>> {
+    let Some(path) = path else {
+        return Ok(None);
+    };
+    let file = File::create(rt, path)?;
+    Ok(Some(AuditFile::begin(rt.alloc(), file, settings)?))
 }
 
 /// Leaves in `complaint` how many proposals were made and rejected.
@@ -217,14 +278,10 @@ fn report(alloc: Global, tally: &Tally, complaint: &mut String) {
 }
 
 /// Leaves in `complaint` what failed, with the system's error. The result is the exit status 1.
-fn refuse(alloc: Global, what: &str, error: Option<io::Error>, complaint: &mut String) -> u8
+fn refuse(alloc: Global, what: &str, error: io::Error, complaint: &mut String) -> u8
     ensures { result ≡ 1 }
 {
-    let line = match error {
-        Some(error) => format!(in alloc; "{what}: {error}\n"),
-        None => format!(in alloc; "{what}: a connection could not be accepted\n"),
-    };
-    if let Ok(line) = line {
+    if let Ok(line) = format!(in alloc; "{what}: {error}\n") {
         let _kept = complaint.push_str(line.as_str());
     }
     1

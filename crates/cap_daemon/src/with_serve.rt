@@ -3,11 +3,12 @@ ghost use Rattle.std.specs.Prelude.{◌≡◌, ◌<◌};
 ghost use Rattle.cap_session.specs.Counted.{state_of, CanCount};
 
 use crate::serve::{serve, serve_command};
-use cap_commands::{Counted, command_line, explain_failure, perform, report};
+use cap_commands::{Counted, command_line, explain_failure, no_memory, perform, report};
 use clap::Command;
 use std::alloc::{AllocError, Global};
 use std::convert::AsStr;
-use std::io::{Read, Write};
+use std::fs::File;
+use std::io::{Input, Read, Write};
 use std::net::{Net, TcpListener, TcpStream};
 use std::rt::Files;
 use std::sync::Wait;
@@ -23,7 +24,8 @@ pub fn run<
         + Wait
         + Clock
         + Eprint
-        + Files
+        + Input
+        + Files<File = File>
         + AllocGlobal
         + Sync,
     S: AsStr,
@@ -43,7 +45,7 @@ pub fn run<
 {
     let alloc = rt.alloc();
     let Ok(command) = with_serve(alloc) else {
-        return 3;
+        return no_memory(writer);
     };
     let status = match command.try_get_matches_from(words) {
         Ok(matches) => match matches.subcommand() {

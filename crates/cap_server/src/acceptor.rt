@@ -1,10 +1,11 @@
 //! Where connections come in, and where those wait to which nothing comes (`Acceptor`).
 use crate::connection::ClientConnection;
-use crate::signal::EndSignal;
+use crate::serving::Sizes;
+use cap_streams::{Course, EndSignal, Renewal};
 use mio::unix::SourceFd;
-use mio::{Events, Interest, Poll, Token};
+use mio::{Events, Interest, Poll, Token, Waker};
 use std::alloc::Global;
-use std::io::{self, ErrorKind};
+use std::io::{self, ErrorKind, Input};
 use std::net::{Net, TcpListener, TcpStream};
 use std::os::fd::AsRawFd;
 use std::time::{Clock, Duration, Instant};
@@ -22,8 +23,24 @@ const LISTENER: Token = Token(0);
 
 const END: Token = Token(1);
 
+/// Where a connection has ended whose place is given on.
+const PLACE: Token = Token(2);
+
+const INPUT: Token = Token(3);
+
 /// The tokens of connections are their numbers, from this one on.
-const FIRST: usize = 2;
+const FIRST: usize = 4;
+
+/// How many connections were accepted, and how many more are.
+#[derive(Clone, Copy)]
+struct Intake {
+    accepted: usize,
+    /// How many are still to come; where places are given on, how many can be accepted now.
+    left: u32,
+    /// Since when the system has refused to accept one.
+    since: Option<Instant>,
+    has_failed: bool,
+}
 
 /// Accepts connections, and waits for those to which nothing comes.
 #[derive(Drop)]
@@ -34,12 +51,9 @@ pub(crate) struct Acceptor {
     events: Events,
     /// How many of the events of the last wait were looked at.
     seen: usize,
-    /// How many connections were accepted, and how many are still to be.
-    accepted: usize,
-    left: u32,
-    /// Since when the system has refused to accept one.
-    since: Option<Instant>,
-    has_failed: bool,
+    intake: Intake,
+    /// Until when the place of a connection that has ended is given on. `None` if it is not.
+    renewal: Option<Renewal>,
 }
 
 /// What came of one look at the listener.
@@ -53,17 +67,17 @@ pub(crate) enum Accept {
     GivenUp,
     /// The system has no descriptor or no memory for one. It is tried again.
     Refused(io::Error),
-    /// None can be accepted any more, and so many were still to come.
+    /// None can be accepted any more, and so many were still to come; where places are given on those count as one.
     Failed(io::Error, u32),
 }
 
 impl Acceptor {
-    /// Before so many connections, at least one. An error means that the system refuses, or that an allocation failed.
+    /// Before so many connections, at least one, as the sizes say. An error means that the system refuses, or that an allocation failed.
     pub(crate) fn new<H: Net>(
         rt: &H,
         alloc: Global,
         listener: TcpListener,
-        connections: u32,
+        sizes: &Sizes,
         signal: &EndSignal,
     ) -> io::Result<Acceptor> {
         let poll = Poll::new(rt)?;
@@ -79,24 +93,70 @@ impl Acceptor {
             poll,
             events,
             seen: 0,
-            accepted: 0,
-            left: connections,
-            since: None,
-            has_failed: false,
+            intake: Intake {
+                accepted: 0,
+                left: sizes.connections,
+                since: None,
+                has_failed: false,
+            },
+            renewal: sizes.drain.map(Renewal::new),
         })
+    }
+
+    /// What wakes the thread that waits here where a connection has ended, if its place is given on.
+    pub(crate) fn waker(&self) -> io::Result<Option<Waker>> {
+        match &self.renewal {
+            Some(_) => Ok(Some(Waker::new(self.poll.registry(), PLACE)?)),
+            None => Ok(None),
+        }
+    }
+
+    /// Whether the place of a connection that has ended is given on.
+    pub(crate) fn renews(&self) -> bool {
+        self.renewal.is_some()
+    }
+
+    /// So many connections have ended. Where places are given on as many more can be accepted.
+    pub(crate) fn give_on(&mut self, count: u32) {
+        if self.renews() {
+            self.intake.left = self.intake.left.saturating_add(count);
+        }
+    }
+
+    /// Looks whether the daemon is to end, if that is told by standard input. Where it has ended the listener is closed.
+    pub(crate) fn course<H: Clock + Input>(&mut self, rt: &H) -> Course {
+        let Some(renewal) = &mut self.renewal else {
+            return Course::On;
+        };
+        match renewal.look(rt, self.poll.registry(), INPUT) {
+            Course::Drains if self.listener.is_none() => Course::On,
+            Course::Drains => {
+                self.close();
+                Course::Drains
+            }
+            course => course,
+        }
+    }
+
+    /// How many connections were accepted.
+    pub(crate) fn accepted(&self) -> usize {
+        self.intake.accepted
     }
 
     /// Whether a connection could not be accepted, and none is any more.
     pub(crate) fn has_failed(&self) -> bool {
-        self.has_failed
+        self.intake.has_failed
     }
 
     /// Accepts a connection, if one waits and is still to come. Where the system has no descriptor or no memory for it that is said once, and it is
-    /// tried again for 5 seconds. With the last connection the listener is closed.
+    /// tried again for 5 seconds; where places are given on, until it has. With the last connection the listener is closed.
     pub(crate) fn accept<H: Clock>(&mut self, rt: &H) -> Accept {
         let Some(listener) = &self.listener else {
             return Accept::Nobody;
         };
+        if self.intake.left == 0 {
+            return Accept::Nobody;
+        }
         match listener.accept() {
             Ok((stream, _)) => self.take_in(stream),
             Err(error) => match error.kind() {
@@ -109,11 +169,11 @@ impl Acceptor {
 
     /// A connection that was accepted, and its number. With the last one the listener is closed.
     fn take_in(&mut self, stream: TcpStream) -> Accept {
-        let number = self.accepted;
-        self.accepted = number.saturating_add(1);
-        self.left = self.left.saturating_sub(1);
-        self.since = None;
-        if self.left == 0 {
+        let number = self.intake.accepted;
+        self.intake.accepted = number.saturating_add(1);
+        self.intake.left = self.intake.left.saturating_sub(1);
+        self.intake.since = None;
+        if self.intake.left == 0 && !self.renews() {
             self.close();
         }
         Accept::Accepted(stream, number)
@@ -134,17 +194,17 @@ impl Acceptor {
             .raw_os_error()
             .is_some_and(|code| WANTS.contains(&code));
         if let (true, Ok(now)) = (may_pass, Instant::now(rt)) {
-            let Some(since) = self.since else {
-                self.since = Some(now);
+            let Some(since) = self.intake.since else {
+                self.intake.since = Some(now);
                 return Accept::Refused(error);
             };
-            if now.duration_since(since) < Duration::from_secs(TRIES_AGAIN) {
+            if self.renews() || now.duration_since(since) < Duration::from_secs(TRIES_AGAIN) {
                 return Accept::Nobody;
             }
         }
-        let left = self.left;
-        self.left = 0;
-        self.has_failed = true;
+        let left = if self.renews() { 1 } else { self.intake.left };
+        self.intake.left = 0;
+        self.intake.has_failed = true;
         self.close();
         Accept::Failed(error, left)
     }
@@ -183,6 +243,11 @@ impl Acceptor {
         for event in self.events.iter().skip(self.seen) {
             self.seen = self.seen.saturating_add(1);
             let Token(token) = event.token();
+            if event.token() == INPUT
+                && let Some(renewal) = &mut self.renewal
+            {
+                renewal.note();
+            }
             if let Some(number) = token.checked_sub(FIRST) {
                 return Some(number);
             }

@@ -4,18 +4,13 @@ ghost use Rattle.cap_session.specs.Session.{new_session};
 ghost use Rattle.std.specs.Option.{option_to_list};
 ghost use Rattle.cap_session.specs.Session.{open_requests};
 ghost use Rattle.cap_workers.specs.Sessions.{IsServed};
-ghost use Rattle.cap_server.specs.Backlogs.{handed_bytes};
+ghost use Rattle.cap_streams.specs.Backlogs.{handed_bytes};
 
-use crate::backlog::Backlog;
-use crate::poller::Poller;
-use crate::sender::Sender;
-use crate::signal::EndSignal;
-use crate::streams::{Incoming, Outgoing};
-use crate::uninterrupted::Uninterrupted;
 use cap_base::RESOURCES;
 use cap_model::Request;
 use cap_session::{Counted, Session};
 use cap_shared::{Naming, Seat, Shared};
+use cap_streams::{Backlog, EndSignal, Incoming, Outgoing, Poller, Sender, Uninterrupted};
 use cap_workers::{EndCause, SessionEnd, serve_session};
 use mio::Interest;
 use std::alloc::Global;
@@ -23,10 +18,13 @@ use std::io::{self, ErrorKind, Read, Write};
 use std::net::{Net, Shutdown, TcpStream};
 use std::os::fd::{AsRawFd, RawFd};
 use std::sync::Wait;
-use std::time::Clock;
+use std::time::{Clock, Duration, Instant};
 
 /// How many reads are made at most of what a client sends that is not looked at any more.
 const DRAIN_READS: u32 = 64;
+
+/// For how many seconds it is tried again to make a connection's thread.
+const TRIES_AGAIN: u64 = 5;
 
 /// The socket of a connection.
 #[derive(Drop)]
@@ -106,8 +104,21 @@ pub(crate) struct ClientConnection {
     pub number: usize,
     /// Whether it is reported to the thread of the daemon once something comes.
     pub is_watched: bool,
+    /// Since when no thread could be made for it.
+    refused: Option<Instant>,
     socket: ClientSocket,
     phase: Phase,
+}
+
+/// What becomes of a connection for which no thread could be made.
+#[derive(Clone, Copy)]
+pub(crate) enum Refused {
+    /// It was the first time. It is tried again.
+    First,
+    /// It is tried again.
+    Again,
+    /// None could be made for 5 seconds: it is closed.
+    GivenUp,
 }
 
 /// How a connection goes on.
@@ -142,6 +153,7 @@ impl ClientConnection {
         Ok(ClientConnection {
             number,
             is_watched: false,
+            refused: None,
             socket: ClientSocket {
                 stream,
                 poller,
@@ -165,6 +177,23 @@ impl ClientConnection {
         is_open || self.socket.poller.is_ready() || self.phase.is_behind()
     }
 
+    /// No thread could be made for it. Whether it is tried again, and whether that is to be said.
+    pub(crate) fn refuse<H: Clock>(&mut self, rt: &H) -> Refused {
+        let Ok(now) = Instant::now(rt) else {
+            return Refused::GivenUp;
+        };
+        match self.refused {
+            None => {
+                self.refused = Some(now);
+                Refused::First
+            }
+            Some(since) if now.duration_since(since) < Duration::from_secs(TRIES_AGAIN) => {
+                Refused::Again
+            }
+            Some(_) => Refused::GivenUp,
+        }
+    }
+
     /// Serves the connection until it ends or the epoch does. Where the journal is full the epoch ends. The connection comes back if it is to be
     /// served in the next.
     pub(crate) fn serve<J: Naming, H: Wait + Clock>(
@@ -177,6 +206,7 @@ impl ClientConnection {
         let ClientConnection {
             number,
             is_watched,
+            refused: _,
             mut socket,
             phase,
         } = self;
@@ -184,6 +214,7 @@ impl ClientConnection {
         Some(ClientConnection {
             number,
             is_watched,
+            refused: None,
             socket,
             phase,
         })
@@ -253,7 +284,7 @@ impl ClientSocket {
         match phase {
             Phase::Serving(open_session) => self.serve(rt, shared, seat, open_session, signal),
             Phase::Closing(backlog, reads) => {
-                let left = self.drain(reads, signal)?;
+                let left = self.drain(rt, reads, signal)?;
                 Some((Phase::Closing(backlog, left), Course::Later))
             }
         }
@@ -333,7 +364,7 @@ impl ClientSocket {
     /// Takes what a client still sends, after its connection was answered for the last time, until nothing comes in time or the epoch is ending: what
     /// is left unread when a connection is closed can make the system take back what was sent last. How many reads are still to be made; `None` if
     /// the connection can be closed.
-    fn drain(&mut self, reads: u32, signal: &EndSignal) -> Option<u32> {
+    fn drain<H: Wait + Clock>(&mut self, rt: &H, reads: u32, signal: &EndSignal) -> Option<u32> {
         let _shut = self.stream.shutdown(Shutdown::Write);
         for left in (0..reads).rev() {
             if signal.is_over() {
@@ -342,7 +373,7 @@ impl ClientSocket {
             if !self.poller.is_ready() && !self.poller.wait().ok()? {
                 return None;
             }
-            if !self.goes_on(signal) {
+            if !self.goes_on(rt, signal) {
                 return None;
             }
         }
@@ -350,10 +381,10 @@ impl ClientSocket {
     }
 
     /// Reads once, and drops what came. Whether more may come.
-    fn goes_on<'x>(&'x mut self, signal: &'x EndSignal) -> bool {
+    fn goes_on<'x, H: Wait + Clock>(&'x mut self, rt: &'x H, signal: &'x EndSignal) -> bool {
         let mut buffer = [0u8; 1024];
         let ClientSocket { stream, poller, .. } = self;
-        match Incoming::new(stream, poller, signal).read(&mut buffer) {
+        match Incoming::new(rt, stream, poller, signal).read(&mut buffer) {
             Ok(count) => count > 0,
             Err(error) => error.kind() == ErrorKind::WouldBlock,
         }
@@ -377,7 +408,7 @@ fn serve_stream<'x, J: Naming, H: Wait + Clock>(
 {
     let (session, pending, backlog) = open_session.into_parts();
     let sender = Sender::new(rt, Uninterrupted::new(stream), taking, signal);
-    let mut reader = Counted::new(Incoming::new(stream, poller, signal));
+    let mut reader = Counted::new(Incoming::new(rt, stream, poller, signal));
     let mut writer = Counted::new(Outgoing::new(sender, backlog));
     let end = serve_session(rt, shared, seat, session, pending, &mut reader, &mut writer);
     (end, writer.into_inner().into_backlog())

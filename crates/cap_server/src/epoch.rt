@@ -3,15 +3,17 @@ ghost use Rattle.std.specs.Prelude.{◌≡◌, ◌≤◌, ◌<◌, length, IfOk}
 ghost use Rattle.cap_server.specs.Epochs.{LeadsTo};
 
 use crate::participants::{EpochThreads, Lanes, Participants};
+use crate::places::Places;
 use crate::state::SharedState;
 use crate::task::Records;
-use crate::threads::run_threads;
+use crate::threads::{Common, run_threads};
 use cap_base::RESOURCES;
 use cap_commit::Cluster;
 use cap_model::NoMemory;
 use cap_shared::{Blank, Closed, Naming, Seat, Shared};
 use cap_workers::{Coordinator, Gate};
 use std::alloc::Global;
+use std::io::Input;
 use std::marker::Brand;
 use std::net::Net;
 use std::sync::Wait;
@@ -42,7 +44,7 @@ impl Carried {
 
 /// An epoch over the cluster that the last one left, with a seat for each connection, each worker and the committer: its journal leads from this
 /// cluster to the one that is left. An error means that an allocation failed or that a thread could not be made; the cluster is given up then.
-pub(crate) fn epoch<H: Net + Threads + Wait + Clock + Eprint + Sync, G: Gate + Sync>(
+pub(crate) fn epoch<H: Net + Threads + Wait + Clock + Eprint + Input + Sync, G: Gate + Sync>(
     rt: &H,
     alloc: Global,
     carried: Carried,
@@ -63,7 +65,7 @@ pub(crate) fn epoch<H: Net + Threads + Wait + Clock + Eprint + Sync, G: Gate + S
 /// The same under a name.
 fn named_epoch<
     J: Naming + Send + Sync,
-    H: Net + Threads + Wait + Clock + Eprint + Sync,
+    H: Net + Threads + Wait + Clock + Eprint + Input + Sync,
     G: Gate + Sync,
 >(
     rt: &H,
@@ -85,7 +87,11 @@ fn named_epoch<
 {
     let (shared, seats) = Shared::<J>::open(alloc, blank, cluster, state.limit)?;
     match work_all(rt, alloc, &shared, state, participants, seats) {
-        Ok((participants, seats)) => Ok(carried_of(shared.close(seats), participants)),
+        Ok((participants, seats)) => {
+            let (carried, records) = parted(shared.close(seats), participants);
+            state.leave(rt, records, carried.participants.acceptor.accepted());
+            Ok(carried)
+        }
         Err(NoMemory) => Err(NoMemory),
     }
 }
@@ -94,7 +100,7 @@ fn named_epoch<
 /// that a thread could not be made.
 fn work_all<
     J: Naming + Send + Sync,
-    H: Net + Threads + Wait + Clock + Eprint + Sync,
+    H: Net + Threads + Wait + Clock + Eprint + Input + Sync,
     G: Gate + Sync,
 >(
     rt: &H,
@@ -109,14 +115,17 @@ fn work_all<
 {
     let lanes = Lanes::new(alloc, state.lanes)?;
     let running = EpochThreads::new(alloc, seats)?;
-    let coordinator = Coordinator::new();
+    let common = Common {
+        coordinator: Coordinator::new(),
+        places: Places::new(alloc, state.seats as usize)?,
+    };
     state.signal.lower(rt);
     let (participants, seats) = run_threads(
         rt,
         alloc,
         shared,
         state,
-        &coordinator,
+        &common,
         lanes,
         running,
         participants,
@@ -127,19 +136,20 @@ fn work_all<
     Ok((participants, seats))
 }
 
-/// What a closed epoch leaves for the next.
-fn carried_of(closed: Closed, participants: Participants) -> Carried
-    ensures cluster { result.cluster.flat ≡ closed.cluster.flat }
-    ensures entries { result.entries ≡ length closed.journal.items }
+/// What a closed epoch leaves for the next, and what is left of it beside that.
+fn parted(closed: Closed, participants: Participants) -> (Carried, Records)
+    ensures cluster { result.0.cluster.flat ≡ closed.cluster.flat }
+    ensures entries { result.0.entries ≡ length closed.journal.items }
 {
     let Closed {
         cluster,
         journal,
         seats,
     } = closed;
-    Carried {
+    let carried = Carried {
         cluster,
+        participants,
         entries: journal.len(),
-        participants: participants.with_records(Records { journal, seats }),
-    }
+    };
+    (carried, Records { journal, seats })
 }

@@ -2,19 +2,14 @@
 #![tactic(auto)]
 
 mod acceptor;
-mod backlog;
 mod connection;
 mod epoch;
 mod participants;
-mod poller;
-mod sender;
+mod places;
+mod rejections;
 mod serving;
-mod signal;
 mod state;
-mod streams;
 mod task;
 mod threads;
-mod uninterrupted;
 
-pub use serving::{Sizes, serve_on};
-pub use uninterrupted::Uninterrupted;
+pub use serving::{Opened, Sizes, serve_on};

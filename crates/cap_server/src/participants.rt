@@ -4,58 +4,33 @@ ghost use Rattle.std.specs.Option.{ForSome};
 
 use crate::acceptor::Acceptor;
 use crate::connection::ClientConnection;
-use crate::signal::EndSignal;
-use crate::task::{Done, Records, Remains};
+use crate::task::{Done, Remains};
 use cap_model::NoMemory;
 use cap_shared::{Naming, Seat};
+use cap_streams::EndSignal;
 use cap_workers::{Committer, Putter, Worker, lanes};
 use std::alloc::Global;
 use std::sync::Wait;
 use std::thread::{JoinHandle, Threads};
 use std::time::Clock;
 
-/// Who works on from epoch to epoch, and what is left of the last one.
+/// Who works on from epoch to epoch.
 #[derive(Drop)]
 pub(crate) struct Participants {
     pub acceptor: Acceptor,
     pub connections: Vec<ClientConnection>,
     pub workers: Vec<Worker>,
-    pub records: Option<Records>,
 }
 
 impl Participants {
     /// Its parts, in their order.
-    pub(crate) fn into_parts(
-        self,
-    ) -> (
-        Acceptor,
-        Vec<ClientConnection>,
-        Vec<Worker>,
-        Option<Records>,
-    ) {
+    pub(crate) fn into_parts(self) -> (Acceptor, Vec<ClientConnection>, Vec<Worker>) {
         let Participants {
             acceptor,
             connections,
             workers,
-            records,
         } = self;
-        (acceptor, connections, workers, records)
-    }
-
-    /// With what is left of an epoch.
-    pub(crate) fn with_records(self, records: Records) -> Participants {
-        let Participants {
-            acceptor,
-            connections,
-            workers,
-            records: _,
-        } = self;
-        Participants {
-            acceptor,
-            connections,
-            workers,
-            records: Some(records),
-        }
+        (acceptor, connections, workers)
     }
 }
 
@@ -94,17 +69,39 @@ impl Lanes {
     }
 }
 
+/// A thread, and the number of the seat that it works with.
+#[derive(Drop)]
+pub(crate) struct SeatedThread<J: Naming> {
+    seat: u32,
+    thread: JoinHandle<Done<J>>,
+}
+
+impl<J: Naming> SeatedThread<J> {
+    /// A thread that works with the seat of this number.
+    pub(crate) fn new(seat: u32, thread: JoinHandle<Done<J>>) -> SeatedThread<J> {
+        SeatedThread { seat, thread }
+    }
+
+    /// Waits for the thread, and gives what it leaves.
+    fn join<H: Threads + Wait>(self, rt: &H) -> Done<J> {
+        let SeatedThread { seat: _, thread } = self;
+        thread.join(rt)
+    }
+}
+
 /// The threads of an epoch, and what is to be given back when it ends.
 #[derive(Drop)]
 pub(crate) struct EpochThreads<J: Naming> {
     /// Those that nobody has.
     pub seats: Vec<Seat<J>>,
-    pub threads: Vec<JoinHandle<Done<J>>>,
+    pub threads: Vec<SeatedThread<J>>,
     /// Those that wait for their threads. The last has waited longest.
     pub waiting: Vec<ClientConnection>,
     /// Those that have no thread and wait for none.
     pub connections: Vec<ClientConnection>,
     pub workers: Vec<Worker>,
+    /// How many connections have ended whose places were not given on yet.
+    pub ended: u32,
     /// Whether an allocation failed, or a thread could not be made.
     pub has_failed: bool,
 }
@@ -127,6 +124,7 @@ impl<J: Naming> EpochThreads<J> {
             waiting,
             connections,
             workers,
+            ended: 0,
             has_failed: false,
         })
     }
@@ -203,7 +201,7 @@ impl<J: Naming> EpochThreads<J> {
         &mut self,
         rt: &H,
         signal: &EndSignal,
-        thread: Option<JoinHandle<Done<J>>>,
+        thread: Option<SeatedThread<J>>,
     ) -> bool {
         if let Some(thread) = thread
             && self.threads.push(thread).is_ok()
@@ -219,10 +217,55 @@ impl<J: Naming> EpochThreads<J> {
         let is_kept = match remains {
             Remains::Connection(connection) => is_added(&mut self.connections, connection),
             Remains::Worker(worker) => self.workers.push(worker).is_ok(),
+            Remains::Ended => {
+                self.end_connection();
+                true
+            }
             Remains::Nothing => true,
         };
-        if !is_kept || self.seats.push(seat).is_err() {
+        if !is_kept || !self.is_seat_back(seat) {
             self.has_failed = true;
+        }
+    }
+
+    /// Takes back a seat. Whether there is one, and memory was found for it.
+    fn is_seat_back(&mut self, seat: Option<Seat<J>>) -> bool {
+        match seat {
+            Some(seat) => self.seats.push(seat).is_ok(),
+            None => false,
+        }
+    }
+
+    /// A connection has ended, whose place can be given on.
+    pub(crate) fn end_connection(&mut self) {
+        self.ended = self.ended.saturating_add(1);
+    }
+
+    /// How many places can be given on, which nobody was told of yet.
+    pub(crate) fn take_ended(&mut self) -> u32 {
+        let ended = self.ended;
+        self.ended = 0;
+        ended
+    }
+
+    /// Waits for the thread that works with the seat of this number, whose connection has ended, and takes back what it leaves.
+    pub(crate) fn join_ended<H: Threads + Wait>(&mut self, rt: &H, seat: u32) {
+        if let Some(place) = self.threads.iter().position(|it| it.seat == seat) {
+            let done = self.threads.swap_remove(place).join(rt);
+            self.take_back(done);
+        }
+    }
+
+    /// Takes back a connection for which no thread could be made, with its seat. It waits for its thread again. Where memory is wanting the epoch
+    /// ends.
+    pub(crate) fn put_off<H: Wait + Clock>(
+        &mut self,
+        rt: &H,
+        signal: &EndSignal,
+        connection: ClientConnection,
+    ) {
+        if !is_added(&mut self.waiting, connection) {
+            self.fail(rt, signal);
         }
     }
 
@@ -230,7 +273,7 @@ impl<J: Naming> EpochThreads<J> {
     pub(crate) fn join<H: Threads + Wait>(
         mut self,
         rt: &H,
-        acceptor: Acceptor,
+        mut acceptor: Acceptor,
     ) -> Result<(Participants, Vec<Seat<J>>), NoMemory> {
         for _ in rt.forever() {
             let Some(thread) = self.threads.pop() else {
@@ -245,8 +288,10 @@ impl<J: Naming> EpochThreads<J> {
             mut waiting,
             mut connections,
             workers,
+            ended,
             has_failed,
         } = self;
+        acceptor.give_on(ended);
         if has_failed || connections.append(&mut waiting).is_err() {
             return Err(NoMemory);
         }
@@ -255,7 +300,6 @@ impl<J: Naming> EpochThreads<J> {
                 acceptor,
                 connections,
                 workers,
-                records: None,
             },
             seats,
         ))

@@ -10,16 +10,18 @@ ghost use Rattle.cap_server.specs.Printed.{Prints, IsStarved, IsRefused, Closes,
 use crate::acceptor::Acceptor;
 use crate::epoch::{Carried, epoch};
 use crate::participants::Participants;
-use crate::signal::EndSignal;
 use crate::state::SharedState;
 use cap_base::RESOURCES;
 use cap_commit::Cluster;
 use cap_config::Config;
 use cap_model::NoMemory;
+use cap_records::{AuditFile, Stats};
 use cap_session::{Counted, write_out};
+use cap_streams::EndSignal;
 use cap_workers::{Gate, Worker};
 use std::alloc::Global;
-use std::io::{self, ErrorKind, Write};
+use std::fs::File;
+use std::io::{self, ErrorKind, Input, Write};
 use std::net::{Net, TcpListener};
 use std::sync::Wait;
 use std::thread::Threads;
@@ -40,6 +42,11 @@ pub struct Sizes {
     /// How many proposals wait for the committer at most: 8 to 1,024. `None` if each worker
     /// commits what it proposes.
     pub lanes: Option<usize>,
+    /// For how many seconds connections are served on once standard input has ended, at most 3,600, where the place of a connection that has
+    /// ended is given to the next: then `connections` are served at once. `None` if as many are accepted in all.
+    pub drain: Option<u32>,
+    /// Each how many seconds standard error is told what was done since the beginning: 1 to 3,600. `None` if it is not.
+    pub stats: Option<u32>,
 }
 
 impl Sizes {
@@ -48,11 +55,22 @@ impl Sizes {
         ensures { IsTrue result ↔ IsAllowed self.now }
     {
         let places = self.lanes.unwrap_or(8);
+        let stats = self.stats.unwrap_or(1);
         (1..=8).contains(&self.workers)
             && (1..=128).contains(&self.connections)
             && (1..=1_000_000).contains(&self.journal)
             && (8..=1024).contains(&places)
+            && self.drain.unwrap_or(0) <= 3600
+            && (1..=3600).contains(&stats)
     }
+}
+
+/// What the system has opened for a daemon.
+#[derive(Drop)]
+pub struct Opened {
+    pub listener: TcpListener,
+    /// Where closed epochs are written, if they are.
+    pub audit: Option<AuditFile<File>>,
 }
 
 /// How many epochs there were, and how many entries their journals had together. Both stop at `u64::MAX`.
@@ -75,17 +93,18 @@ impl Totals {
 }
 
 /// Serves connections that the listener accepts, exactly as many as `sizes` says, each in a thread of its own, over one cluster with the
-/// queues of the settings, on which workers schedule, until all connections have ended. With the last connection the listener is closed. Prints
-/// `listening` with the port first, and at the end `closed` with the number of epochs and the sum of their journals' lengths: the journals, one
-/// after the other, lead from the cluster of the settings to the last one. A connection that fails ends alone; the others go
-/// on. The result is the exit status: 0 done; 1 if the writer failed, the system has no descriptor for the daemon or a connection could not be
-/// accepted, after which those that were accepted are still served; 3 if an allocation of the daemon's own failed or a thread could not be made,
-/// after it has printed `no memory`. Standard error is told why a connection could not be accepted or set up, and at the end how many changes of
-/// epochs there were and how long they took at most.
-pub fn serve_on<H: Net + Threads + Wait + Clock + Eprint + Sync, G: Gate + Sync, W: Write>(
+/// queues of the settings, on which workers schedule, until all connections have ended. With the last connection the listener is closed. Where `sizes`
+/// has `drain` the place of a connection that has ended is given to the next, until standard input has ended. Prints `listening` with the port first,
+/// and at the end `closed` with the number of epochs and the sum of their journals' lengths: the journals, one after the other, lead from the cluster
+/// of the settings to the last one. Each is written to the audit file, if there is one. A connection that fails ends alone; the others go on. The
+/// result is the exit status: 0 done; 1 if the writer failed, the system has no descriptor for the daemon, a connection could not be accepted, after
+/// which those that were accepted are still served, or an epoch could not be written, after which none is; 3 if an allocation of the daemon's own
+/// failed or a thread could not be made, after it has printed `no memory`. Standard error is told why a connection could not be accepted or set up, or
+/// an epoch not be written, and at the end how many changes of epochs there were and how long they took at most.
+pub fn serve_on<H: Net + Threads + Wait + Clock + Eprint + Input + Sync, G: Gate + Sync, W: Write>(
     rt: &H,
     alloc: Global,
-    listener: TcpListener,
+    opened: Opened,
     sizes: &Sizes,
     config: &Config<RESOURCES>,
     gate: &G,
@@ -99,28 +118,34 @@ pub fn serve_on<H: Net + Threads + Wait + Clock + Eprint + Sync, G: Gate + Sync,
         (W.contents (inner_of writer.old)) (W.contents (inner_of writer.new))
         (Ends sizes.now.journal (opened_cluster config.now) result) }
 {
-    let Some(port) = port_of(&listener) else {
-        return 1;
+    let Opened { listener, audit } = opened;
+    let port = match port_of(&listener) {
+        Ok(port) => port,
+        Err(error) => return without_descriptor(rt, error, writer),
     };
     let signal = match EndSignal::new(rt) {
         Ok(signal) => signal,
         Err(error) => return without_descriptor(rt, error, writer),
     };
-    let acceptor = match Acceptor::new(rt, alloc, listener, sizes.connections, &signal) {
+    let acceptor = match Acceptor::new(rt, alloc, listener, sizes, &signal) {
         Ok(acceptor) => acceptor,
+        Err(error) => return without_descriptor(rt, error, writer),
+    };
+    let waker = match acceptor.waker() {
+        Ok(waker) => waker,
         Err(error) => return without_descriptor(rt, error, writer),
     };
     let Ok(carried) = begin(alloc, config, sizes, acceptor) else {
         return no_memory(writer);
     };
-    let state = SharedState::new(gate, sizes, signal);
+    let state = SharedState::new(gate, sizes, signal, waker, stats_of(rt, sizes), audit);
     match announce(alloc, port, writer) {
         Ok(()) => serve_all(rt, alloc, &state, carried, writer),
         Err(status) => status,
     }
 }
 
-/// The system has no descriptor for the daemon, or no memory. The result is the exit status.
+/// The listener can't be set up or waited for, or an allocation failed. The result is the exit status.
 fn without_descriptor<H: Eprint, W: Write>(rt: &H, error: io::Error, writer: &mut Counted<W>) -> u8
     requires { CanCount (state_of writer.old) }
     ensures status { result < 4 }
@@ -132,7 +157,7 @@ fn without_descriptor<H: Eprint, W: Write>(rt: &H, error: io::Error, writer: &mu
     if error.kind() == ErrorKind::OutOfMemory {
         return no_memory(writer);
     }
-    let _told = eprintln!(rt; "listener: {error}");
+    let _told = eprintln!(rt; "listener: it can't be waited for: {error}");
     1
 }
 
@@ -162,7 +187,7 @@ fn announce<W: Write>(alloc: Global, port: u16, writer: &mut Counted<W>) -> Resu
 }
 
 /// Serves until all connections have ended, and prints how many epochs and entries there were. The result is the exit status.
-fn serve_all<H: Net + Threads + Wait + Clock + Eprint + Sync, G: Gate + Sync, W: Write>(
+fn serve_all<H: Net + Threads + Wait + Clock + Eprint + Input + Sync, G: Gate + Sync, W: Write>(
     rt: &H,
     alloc: Global,
     state: &SharedState<'_, G>,
@@ -176,10 +201,10 @@ fn serve_all<H: Net + Threads + Wait + Clock + Eprint + Sync, G: Gate + Sync, W:
         (W.contents (inner_of writer.old)) (W.contents (inner_of writer.new))
         (Closes state.now.limit carried.cluster.flat result) }
 {
-    let Ok((totals, carried)) = run_epochs(rt, alloc, state, carried) else {
+    let Ok((totals, carried)) = run_all(rt, alloc, state, carried) else {
         return no_memory(writer);
     };
-    let has_failed = carried.participants.acceptor.has_failed();
+    let has_failed = has_failed(rt, state, &carried);
     drop(carried);
     tell_changes(rt, state);
     let Totals { epochs, entries } = totals;
@@ -192,7 +217,12 @@ fn serve_all<H: Net + Threads + Wait + Clock + Eprint + Sync, G: Gate + Sync, W:
     }
 }
 
-/// The exit status once all is printed: 1 if a connection could not be accepted.
+/// Whether a connection could not be accepted, or an epoch not be written to the audit file.
+fn has_failed<H: Wait, G>(rt: &H, state: &SharedState<'_, G>, carried: &Carried) -> bool {
+    carried.participants.acceptor.has_failed() || state.audit_failure(rt).is_some()
+}
+
+/// The exit status once all is printed: 1 if a connection could not be accepted, or an epoch not be written to the audit file.
 fn closing_status(has_failed: bool) -> u8
     ensures { result ≤ 1 }
 {
@@ -220,15 +250,10 @@ fn no_memory<W: Write>(writer: &mut Counted<W>) -> u8
     }
 }
 
-/// The port of the listener, which does not wait for connections any more. `None` if the system refuses.
-fn port_of(listener: &TcpListener) -> Option<u16> {
-    if listener.set_nonblocking(true).is_err() {
-        return None;
-    }
-    match listener.local_addr() {
-        Ok(address) => Some(address.port()),
-        Err(_) => None,
-    }
+/// The port of the listener, which does not wait for connections any more. An error means that the system refuses.
+fn port_of(listener: &TcpListener) -> io::Result<u16> {
+    listener.set_nonblocking(true)?;
+    Ok(listener.local_addr()?.port())
 }
 
 /// The cluster of the settings, and the workers. An error means that an allocation failed.
@@ -247,7 +272,6 @@ fn begin(
             acceptor,
             connections: Vec::new(alloc),
             workers,
-            records: None,
         },
         entries: 0,
     })
@@ -264,6 +288,14 @@ fn workers_of(alloc: Global, count: u32) -> Result<Vec<Worker>, NoMemory> {
     Ok(workers)
 }
 
+/// What is told each so often, if it is.
+fn stats_of<H: Clock>(rt: &H, sizes: &Sizes) -> Option<Stats> {
+    match sizes.stats {
+        Some(seconds) => Some(Stats::new(rt, seconds)),
+        None => None,
+    }
+}
+
 /// Lets the memory that an epoch frees be kept for the next. glibc's malloc takes a block above a threshold anew from the system, and gives
 /// it back when it is freed. Freeing such a block of up to 32 MiB raises that threshold to its size, and to twice its size the one for
 /// giving back what is free at the end of the heap (mallopt(3), M_MMAP_THRESHOLD). Nothing is written to the block, so it costs no memory.
@@ -271,10 +303,29 @@ fn keep_memory(alloc: Global) {
     drop(Vec::<u8>::with_capacity(alloc, KEPT));
 }
 
+/// All epochs, as `run_epochs`, and what is left of the last one is written to the audit file, if there is one. Standard error is told why an epoch
+/// could not be written.
+fn run_all<H: Net + Threads + Wait + Clock + Eprint + Input + Sync, G: Gate + Sync>(
+    rt: &H,
+    alloc: Global,
+    state: &SharedState<'_, G>,
+    carried: Carried,
+) -> Result<(Totals, Carried), NoMemory>
+    ensures { IfOk result (λ run.
+        LeadsThrough state.now.limit carried.cluster.flat run.0 run.1.cluster.flat) }
+{
+    let run = run_epochs(rt, alloc, state, carried);
+    state.clear(rt, alloc);
+    if let Some(error) = state.audit_failure(rt) {
+        let _told = eprintln!(rt; "audit file: {error}");
+    }
+    run
+}
+
 /// One epoch after the other, each over the cluster that the last one closed, until all connections have ended: how many there were, and what the
 /// last one left. The events of all journals, one after the other, lead from the first cluster to the last one. An error means that an
 /// allocation failed, or that a thread could not be made.
-fn run_epochs<H: Net + Threads + Wait + Clock + Eprint + Sync, G: Gate + Sync>(
+fn run_epochs<H: Net + Threads + Wait + Clock + Eprint + Input + Sync, G: Gate + Sync>(
     rt: &H,
     alloc: Global,
     state: &SharedState<'_, G>,

@@ -1,13 +1,16 @@
 //! What the threads of an epoch do: those of workers and of the committer (`Task`), and those that serve connections.
 use crate::connection::ClientConnection;
+use crate::places::{Given, Place};
 use crate::state::SharedState;
 use cap_shared::{Entry, Naming, Seat, SeatReport, Shared};
+use cap_streams::EndSignal;
 use cap_workers::{
-    Committer, Coordinator, Gate, Putter, Worker, commit_all, schedule, schedule_by_lane,
+    Committer, Coordinator, Gate, Putter, StopSignal, Worker, commit_all, schedule,
+    schedule_by_lane,
 };
 use std::alloc::Global;
 use std::sync::Wait;
-use std::time::Clock;
+use std::time::{Clock, Duration};
 
 /// What is left of a closed epoch beside its cluster.
 #[derive(Drop)]
@@ -25,25 +28,50 @@ pub(crate) enum Task {
     Commit(Committer),
 }
 
+/// When those that schedule leave an epoch: as it ends.
+#[derive(Drop)]
+struct Leaving<'a> {
+    signal: &'a EndSignal,
+}
+
+impl<'a> Leaving<'a> {
+    /// As this signal is raised.
+    fn by(signal: &'a EndSignal) -> Leaving<'a> {
+        Leaving { signal }
+    }
+}
+
+impl StopSignal for Leaving<'_> {
+    fn is_raised<R: Wait>(&self, _rt: &R) -> bool {
+        self.signal.is_over()
+    }
+
+    fn wait<R: Wait + Clock>(&self, rt: &R, pause: Duration) {
+        self.signal.wait(rt, pause);
+    }
+}
+
 /// What a thread leaves for the next epoch.
 #[derive(Drop)]
 pub(crate) enum Remains {
     Connection(ClientConnection),
     Worker(Worker),
-    /// The connection has ended, or the next epoch has a committer of its own.
+    /// The connection has ended.
+    Ended,
+    /// The next epoch has a committer of its own.
     Nothing,
 }
 
-/// A task that was done in an epoch, and the seat that it was done with.
+/// A task that was done in an epoch, and the seat that it was done with, if there was one.
 #[derive(Drop)]
 pub(crate) struct Done<J: Naming> {
     pub remains: Remains,
-    pub seat: Seat<J>,
+    pub seat: Option<Seat<J>>,
 }
 
 impl<J: Naming> Done<J> {
     /// What remains, and the seat.
-    pub(crate) fn into_parts(self) -> (Remains, Seat<J>) {
+    pub(crate) fn into_parts(self) -> (Remains, Option<Seat<J>>) {
         let Done { remains, seat } = self;
         (remains, seat)
     }
@@ -74,30 +102,49 @@ impl Task {
                 )
             }
             Task::Commit(committer) => {
-                commit_all(rt, shared, &mut seat, coordinator, state.gate, committer);
+                commit_all(rt, shared, &mut seat, coordinator, &state.gate, committer);
                 Remains::Nothing
             }
         };
-        Done { remains, seat }
+        Done {
+            remains,
+            seat: Some(seat),
+        }
     }
 }
 
-/// Serves a connection in an epoch, until it ends or the epoch does.
+/// Serves the connection that was given in an epoch, until it ends or the epoch does. Where it has ended, that is noted at its place.
 pub(crate) fn serve<J: Naming, H: Wait + Clock, G>(
     rt: &H,
     shared: &Shared<J>,
     state: &SharedState<'_, G>,
-    connection: ClientConnection,
-    mut seat: Seat<J>,
+    place: &Place<J>,
 ) -> Done<J> {
+    let Some(
+        Given {
+            connection,
+            mut seat,
+        },
+    ) = place.take(rt)
+    else {
+        return Done {
+            remains: Remains::Nothing,
+            seat: None,
+        };
+    };
     let remains = match connection.serve(rt, shared, &mut seat, &state.signal) {
         Some(connection) => Remains::Connection(connection),
         None => {
             state.end_connections(rt, 1);
-            Remains::Nothing
+            place.note_end();
+            state.wake();
+            Remains::Ended
         }
     };
-    Done { remains, seat }
+    Done {
+        remains,
+        seat: Some(seat),
+    }
 }
 
 /// Schedules until the journal is full or the epoch ends; where the journal is full the epoch ends.
@@ -111,7 +158,7 @@ fn propose<J: Naming, H: Wait + Clock, G: Gate>(
     mut worker: Worker,
     putter: Option<Putter>,
 ) -> Remains {
-    let (signal, gate) = (&state.signal, state.gate);
+    let (signal, gate) = (&Leaving::by(&state.signal), &state.gate);
     match putter {
         Some(putter) => schedule_by_lane(
             rt,
@@ -135,6 +182,6 @@ fn propose<J: Naming, H: Wait + Clock, G: Gate>(
             &mut worker,
         ),
     }
-    signal.raise(rt);
+    state.signal.raise(rt);
     Remains::Worker(worker)
 }

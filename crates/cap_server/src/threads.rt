@@ -2,17 +2,20 @@
 ghost use denote.Param.Send.{IsSend, IsSync};
 
 use crate::acceptor::{Accept, Acceptor};
-use crate::connection::ClientConnection;
-use crate::participants::{EpochThreads, Lanes, Participants};
+use crate::connection::{ClientConnection, Refused};
+use crate::participants::{EpochThreads, Lanes, Participants, SeatedThread};
+use crate::places::{Given, Place, Places};
 use crate::state::SharedState;
-use crate::task::{Done, Records, Task, serve};
+use crate::task::{Done, Task, serve};
 use cap_model::NoMemory;
 use cap_shared::{Naming, Seat, Shared};
-use cap_workers::{Coordinator, Gate, Putter, StopSignal};
+use cap_streams::Course;
+use cap_workers::{Coordinator, Gate, Putter};
 use std::alloc::Global;
+use std::io::Input;
 use std::net::{Net, TcpStream};
 use std::sync::Wait;
-use std::thread::{self, Builder, JoinHandle, Scope, SpawnError, Threads};
+use std::thread::{self, Builder, JoinHandle, Scope, SpawnError, Threads, sleep};
 use std::time::{Clock, Duration};
 
 /// How long the thread of the daemon waits at most where nothing happens, in milliseconds.
@@ -26,17 +29,29 @@ const BEGIN_MORE: u64 = 4;
 /// The stack of a connection's thread, in bytes. Of threads that end, glibc keeps 40 MiB of stacks for those that begin.
 const STACK: usize = 512 * 1024;
 
+/// How often it is tried to make a thread for a task, and after how many milliseconds again: for 5 seconds together.
+const TRIES: u32 = 100;
+
+const TRY_AGAIN: u64 = 50;
+
+/// What the threads of an epoch share beside the cluster.
+#[derive(Drop)]
+pub(crate) struct Common<J: Naming> {
+    pub coordinator: Coordinator,
+    pub places: Places<J>,
+}
+
 /// Begins the threads of an epoch, and waits for them.
 pub(crate) fn run_threads<
     J: Naming + Send + Sync,
-    H: Net + Threads + Wait + Clock + Eprint + Sync,
+    H: Net + Threads + Wait + Clock + Eprint + Input + Sync,
     G: Gate + Sync,
 >(
     rt: &H,
     alloc: Global,
     shared: &Shared<J>,
     state: &SharedState<'_, G>,
-    coordinator: &Coordinator,
+    common: &Common<J>,
     lanes: Lanes,
     running: EpochThreads<J>,
     participants: Participants,
@@ -53,7 +68,7 @@ pub(crate) fn run_threads<
                 alloc,
                 shared,
                 state,
-                coordinator,
+                common,
             };
             epoch.run(lanes, running, participants)
         },
@@ -68,7 +83,7 @@ struct EpochScope<'s, 'a, E, J: Naming, H, G> {
     alloc: Global,
     shared: &'s Shared<J>,
     state: &'s SharedState<'a, G>,
-    coordinator: &'s Coordinator,
+    common: &'s Common<J>,
 }
 
 impl<
@@ -76,7 +91,7 @@ impl<
     'a,
     E,
     J: Naming + Send + Sync,
-    H: Net + Threads + Wait + Clock + Eprint + Sync,
+    H: Net + Threads + Wait + Clock + Eprint + Input + Sync,
     G: Gate + Sync,
 > EpochScope<'s, 'a, E, J, H, G> {
     /// The epoch, from its first thread to its last.
@@ -86,7 +101,7 @@ impl<
         mut running: EpochThreads<J>,
         participants: Participants,
     ) -> Result<(Participants, Vec<Seat<J>>), NoMemory> {
-        let (mut acceptor, connections, workers, records) = participants.into_parts();
+        let (mut acceptor, connections, workers) = participants.into_parts();
         let (committer, mut putters) = lanes.into_parts();
         if let Some(committer) = committer
             && !self.begin(&mut running, Task::Commit(committer))
@@ -104,54 +119,99 @@ impl<
             running.wait_or_watch(self.rt, &self.state.signal, &acceptor, connection);
         }
         self.begin_waiting(&mut running);
-        self.clear(records);
+        self.clear();
         self.attend(&mut running, &mut acceptor);
         running.join(self.rt, acceptor)
     }
 
-    /// Begins a thread for a connection. Where the epoch is ending that is left to the next one; where no thread can be made it ends.
-    fn begin_connection(&self, running: &mut EpochThreads<J>, connection: ClientConnection) {
-        if self.state.signal.is_over() {
-            running.keep(self.rt, &self.state.signal, connection);
-            return;
+    /// Begins a thread for a connection. Where the epoch is ending that is left to the next one. Whether a thread could be made, or none was to be:
+    /// else the connection waits for it.
+    fn begin_connection(
+        &self,
+        running: &mut EpochThreads<J>,
+        connection: ClientConnection,
+    ) -> bool {
+        let signal = &self.state.signal;
+        if signal.is_over() {
+            running.keep(self.rt, signal, connection);
+            return true;
         }
         let Some(seat) = running.next_seat() else {
-            running.fail(self.rt, &self.state.signal);
-            return;
+            return running.fail(self.rt, signal);
         };
-        let begun = begin_serving(
-            self.scope,
-            self.rt,
-            self.shared,
-            self.state,
-            connection,
-            seat,
-        );
-        running.add(self.rt, &self.state.signal, begun);
+        let number = seat.number();
+        let Some(place) = self.common.places.of(number) else {
+            return running.fail(self.rt, signal);
+        };
+        place.give(self.rt, connection, seat);
+        match begin_serving(self.scope, self.rt, self.shared, self.state, place) {
+            Some(thread) => {
+                running.add(self.rt, signal, Some(SeatedThread::new(number, thread)))
+            }
+            None => self.take_back(running, place),
+        }
     }
 
-    /// Begins a thread for a task. Where none can be made the epoch ends. Whether the thread was made.
+    /// Takes back a connection and its seat, since no thread could be made for it. It is tried again for 5 seconds; then the connection alone is
+    /// closed.
+    fn take_back(&self, running: &mut EpochThreads<J>, place: &Place<J>) -> bool {
+        let signal = &self.state.signal;
+        let Some(
+            Given {
+                mut connection,
+                seat,
+            },
+        ) = place.take(self.rt)
+        else {
+            return running.fail(self.rt, signal);
+        };
+        if running.seats.push(seat).is_err() {
+            return running.fail(self.rt, signal);
+        }
+        match connection.refuse(self.rt) {
+            Refused::GivenUp => {
+                let _told = eprintln!(self.rt; "connection: no thread can be made, it is closed");
+                drop(connection);
+                running.end_connection();
+                self.state.end_connections(self.rt, 1);
+            }
+            Refused::First => {
+                let _told = eprintln!(self.rt;
+                    "connection: no thread can be made; it is tried again"
+                );
+                running.put_off(self.rt, signal, connection);
+            }
+            Refused::Again => running.put_off(self.rt, signal, connection),
+        }
+        false
+    }
+
+    /// Begins a thread for a task. Where none can be made for 5 seconds the epoch ends. Whether it goes on.
     fn begin(&self, running: &mut EpochThreads<J>, task: Task) -> bool {
         let Some(seat) = running.next_seat() else {
             return running.fail(self.rt, &self.state.signal);
         };
+        let number = seat.number();
         let begun = begin_thread(
             self.scope,
             self.rt,
             self.alloc,
             self.shared,
             self.state,
-            self.coordinator,
+            &self.common.coordinator,
             task,
             seat,
         );
         match begun {
-            Begun::Thread(thread) => running.add(self.rt, &self.state.signal, Some(thread)),
+            Begun::Thread(thread) => {
+                let thread = SeatedThread::new(number, thread);
+                running.add(self.rt, &self.state.signal, Some(thread))
+            }
             Begun::Done(done) => {
                 running.take_back(done);
-                running.fail(self.rt, &self.state.signal)
+                true
             }
-            Begun::Refused => running.fail(self.rt, &self.state.signal),
+            Begun::GivenUp => running.fail(self.rt, &self.state.signal),
         }
     }
 
@@ -165,25 +225,28 @@ impl<
             let Some(connection) = running.next_waiting() else {
                 return;
             };
-            self.begin_connection(running, connection);
+            if !self.begin_connection(running, connection) {
+                return;
+            }
         }
     }
 
-    /// Drops what is left of the last epoch, in a thread of its own if one can be made.
-    fn clear(&self, records: Option<Records>) {
-        let Some(records) = records else {
-            return;
-        };
-        self.state.note_change(self.rt);
-        if let Err(refused) = self.scope.spawn(move || drop(records)) {
-            drop(refused);
+    /// Writes what is left of the last epoch to the audit file, if there is one, and drops it, in a thread of its own if one can be made. The epoch
+    /// is not closed before that is done.
+    fn clear(&self) {
+        if self.state.has_records(self.rt) {
+            self.state.note_change(self.rt);
+            begin_clearing(self.scope, self.rt, self.alloc, self.state);
         }
     }
 
     /// Accepts connections, and begins a thread for each connection to which something comes, until the epoch ends.
     fn attend(&self, running: &mut EpochThreads<J>, acceptor: &mut Acceptor) {
         for _ in self.rt.forever() {
+            self.renew(running, acceptor);
             self.accept_all(running, acceptor);
+            self.state
+                .look_at_stats(self.rt, self.shared, acceptor.accepted());
             if self.shared.is_full(self.rt) {
                 self.state.signal.raise(self.rt);
             }
@@ -205,6 +268,29 @@ impl<
         }
     }
 
+    /// Gives on the places of connections that have ended, and looks whether the daemon is to end.
+    fn renew(&self, running: &mut EpochThreads<J>, acceptor: &mut Acceptor) {
+        if !acceptor.renews() {
+            return;
+        }
+        for number in 0..self.state.seats {
+            if self.common.places.has_ended(number) {
+                running.join_ended(self.rt, number);
+            }
+        }
+        acceptor.give_on(running.take_ended());
+        match acceptor.course(self.rt) {
+            Course::On => {}
+            Course::Drains => {
+                let _told = eprintln!(self.rt;
+                    "standard input has ended: no more connections are accepted"
+                );
+                self.state.end_connections(self.rt, 1);
+            }
+            Course::Over => self.state.end_all(self.rt),
+        }
+    }
+
     /// Begins a thread for each connection to which something came, unless the epoch is ending.
     fn begin_ready(&self, running: &mut EpochThreads<J>, acceptor: &mut Acceptor) {
         for _ in self.rt.forever() {
@@ -212,7 +298,7 @@ impl<
                 return;
             };
             if let Some(connection) = running.take_watched(acceptor, number) {
-                self.begin_connection(running, connection);
+                let _begun = self.begin_connection(running, connection);
             }
         }
     }
@@ -225,6 +311,7 @@ impl<
             }
             match acceptor.accept(self.rt) {
                 Accept::Accepted(stream, number) => {
+                    self.state.add_connection();
                     self.welcome(running, acceptor, stream, number);
                 }
                 Accept::GivenUp => {}
@@ -255,6 +342,7 @@ impl<
             Ok(connection) => running.wait_or_watch(self.rt, signal, acceptor, connection),
             Err(error) => {
                 let _told = eprintln!(self.rt; "connection: {error}");
+                running.end_connection();
                 self.state.end_connections(self.rt, 1);
             }
         }
@@ -265,10 +353,10 @@ impl<
 #[derive(Drop)]
 enum Begun<J: Naming> {
     Thread(JoinHandle<Done<J>>),
-    /// None could be made, and the task was done without.
+    /// None could be made until the epoch was ending. The task was done without, which then took no time.
     Done(Done<J>),
-    /// None could be made, and the task was not done.
-    Refused,
+    /// None could be made for 5 seconds.
+    GivenUp,
 }
 
 /// Takes the lane of the worker of this number, if there are lanes.
@@ -277,25 +365,31 @@ fn lane_of(putters: &mut Vec<Putter>, number: u32) -> Option<Putter> {
     Some(putters.swap_remove(place))
 }
 
-/// Begins a thread for a connection. If none can be made the connection is closed.
+/// Begins a thread for the connection that was given, which it takes. `None` if none can be made: what was given stays.
 fn begin_serving<'s, 'a, E, J: Naming + Send + Sync, H: Wait + Clock + Sync, G: Sync>(
     scope: &'s Scope<'s, E>,
     rt: &'s H,
     shared: &'s Shared<J>,
     state: &'s SharedState<'a, G>,
-    connection: ClientConnection,
-    seat: Seat<J>,
+    place: &'s Place<J>,
 ) -> Option<JoinHandle<Done<J>>> {
-    let work = move || serve(rt, shared, state, connection, seat);
+    let work = move || serve(rt, shared, state, place);
     Builder::new()
         .stack_size(STACK)
         .spawn_scoped(scope, work)
         .ok()
 }
 
-/// Begins a thread for a task. Where none can be made the epoch ends, and a worker's task is done here, which then takes no time; nothing else
-/// waits for a committer that has not begun.
-fn begin_thread<'s, 'a, E, J: Naming + Send + Sync, H: Wait + Clock + Sync, G: Gate + Sync>(
+/// Begins a thread for a task. While none can be made it is tried again for 5 seconds, and then the epoch ends. A worker's task is done here once the
+/// epoch is ending, which then takes no time, and ends its lane; nothing waits for a committer that has not begun.
+fn begin_thread<
+    's,
+    'a,
+    E,
+    J: Naming + Send + Sync,
+    H: Wait + Clock + Eprint + Sync,
+    G: Gate + Sync,
+>(
     scope: &'s Scope<'s, E>,
     rt: &'s H,
     alloc: Global,
@@ -306,16 +400,35 @@ fn begin_thread<'s, 'a, E, J: Naming + Send + Sync, H: Wait + Clock + Sync, G: G
     seat: Seat<J>,
 ) -> Begun<J> {
     let ends_alone = !matches!(task, Task::Commit(_));
-    let work = move || task.work(rt, alloc, shared, state, coordinator, seat);
-    match scope.spawn(work) {
-        Ok(thread) => Begun::Thread(thread),
-        Err(SpawnError { value: work }) => {
-            state.signal.raise(rt);
-            if ends_alone {
-                Begun::Done(work())
-            } else {
-                Begun::Refused
-            }
+    let mut work = move || task.work(rt, alloc, shared, state, coordinator, seat);
+    for tries in 0..TRIES {
+        match scope.spawn(work) {
+            Ok(thread) => return Begun::Thread(thread),
+            Err(SpawnError { value }) => work = value,
         }
+        if ends_alone && state.signal.is_over() {
+            return Begun::Done(work());
+        }
+        if tries == 0 {
+            let _told = eprintln!(rt; "scheduling: no thread can be made; it is tried again");
+        }
+        sleep(rt, Duration::from_millis(TRY_AGAIN));
+    }
+    state.signal.raise(rt);
+    if ends_alone {
+        drop(work());
+    }
+    Begun::GivenUp
+}
+
+/// Clears what is left of the last epoch, in a thread of its own if one can be made.
+fn begin_clearing<'s, 'a, E, H: Wait + Clock + Sync, G: Sync>(
+    scope: &'s Scope<'s, E>,
+    rt: &'s H,
+    alloc: Global,
+    state: &'s SharedState<'a, G>,
+) {
+    if let Err(SpawnError { value: work }) = scope.spawn(move || state.clear(rt, alloc)) {
+        work();
     }
 }

@@ -2,11 +2,24 @@
 #![tactic(auto)]
 
 use cap_commands::{Counted, run};
+use std::env;
+use std::io::{self, ErrorKind, Write};
 use std::process::ExitCode;
-use std::{env, io};
+
+/// The words of the command line. `None` if an allocation failed.
+fn words_of(rt: &HostRuntime) -> io::Result<Option<Vec<String>>> {
+    match env::args(rt) {
+        Ok(words) => Ok(words.collect(rt.alloc()).ok()),
+        Err(error) if error.kind() == ErrorKind::OutOfMemory => Ok(None),
+        Err(error) => Err(error),
+    }
+}
 
 fn main(rt: HostRuntime) -> anyhow::Result<ExitCode> {
-    let words: Vec<String> = env::args(&rt)?.collect(rt.alloc())?;
+    let Some(words) = words_of(&rt)? else {
+        io::writer(&rt).write_all(b"no memory\n")?;
+        return Ok(ExitCode::from(3));
+    };
     let mut complaint = String::new(rt.alloc());
     let status = run(
         rt.alloc(),

@@ -5,7 +5,7 @@ use crate::side::{ONE_QUEUE, Outcome, closed_by, listen, served};
 use cap_server::Sizes;
 use cap_testing::Mark;
 use std::alloc::Global;
-use std::io;
+use std::io::{self, Input, StdinLock};
 use std::net::{Net, TcpListener, TcpStream};
 use std::sync::Wait;
 use std::test::*;
@@ -192,13 +192,21 @@ fn make_both<
 
 /// What came of a daemon of some epochs of four entries, with both connections beside it.
 fn beside_both<
-    H: Net<Listener = TcpListener, Stream = TcpStream> + Threads + Wait + Clock + Eprint + Sync,
+    H: Net<Listener = TcpListener, Stream = TcpStream>
+        + Threads
+        + Wait
+        + Clock
+        + Eprint
+        + Input<Reader = StdinLock<'static>>
+        + Sync,
 >(rt: &H, alloc: Global, trouble: Trouble) -> Option<Outcome> {
     let sizes = Sizes {
         workers: 1,
         connections: 2,
         journal: 4,
         lanes: Some(64),
+        drain: None,
+        stats: None,
     };
     let (listener, port) = listen(rt)?;
     let ((status, printed), answered) = join(
@@ -215,7 +223,13 @@ fn beside_both<
 
 /// How many entries a daemon has in all, in epochs of four, if it answers a connection over these while another one makes trouble.
 fn entries_beside<
-    H: Net<Listener = TcpListener, Stream = TcpStream> + Threads + Wait + Clock + Eprint + Sync,
+    H: Net<Listener = TcpListener, Stream = TcpStream>
+        + Threads
+        + Wait
+        + Clock
+        + Eprint
+        + Input<Reader = StdinLock<'static>>
+        + Sync,
 >(rt: &H, alloc: Global, trouble: Trouble) -> Option<u64> {
     let (_epochs, entries) = closed_by(&beside_both(rt, alloc, trouble)?)?;
     Some(entries)

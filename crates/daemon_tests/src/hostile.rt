@@ -92,6 +92,8 @@ fn others_go_on(rt: HostRuntime) {
         connections: 4,
         journal: 1000,
         lanes: Some(64),
+        drain: None,
+        stats: None,
     };
     let ended = closed(&rt, rt.alloc(), ONE_QUEUE, &sizes, GateOf::Open, &Hostile);
     assert!(rt; matches!(ended, Some((epochs, _)) if epochs >= 2));

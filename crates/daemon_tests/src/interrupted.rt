@@ -1,7 +1,7 @@
 //! Streams whose calls are interrupted.
 ghost use Rattle.std.specs.Prelude.{◌≤◌, IfOk};
 
-use cap_server::Uninterrupted;
+use cap_streams::Uninterrupted;
 use std::io::{self, ErrorKind, Read, Write};
 use std::test::*;
 

@@ -3,8 +3,8 @@ use crate::client::{ASK, are_answered, connect, send};
 use crate::side::listen;
 use cap_daemon::{Counted, run};
 use std::alloc::Global;
-use std::fs;
-use std::io::{self, Read};
+use std::fs::{self, File};
+use std::io::{self, Input, Read};
 use std::net::{Net, TcpListener, TcpStream};
 use std::rt::Files;
 use std::sync::Wait;
@@ -22,7 +22,8 @@ fn run_words<
         + Wait
         + Clock
         + Eprint
-        + Files
+        + Input
+        + Files<File = File>
         + AllocGlobal
         + Sync,
 >(rt: &H, words: &[&str], wanted: &str, said: &str) -> Ran {
@@ -60,8 +61,10 @@ const JOURNAL: usize = 11;
 
 const LANES: usize = 13;
 
+const DRAIN: usize = 15;
+
 /// The words of a daemon without a settings file. No port is bound before that file is read.
-const WORDS: [&str; 14] = [
+const WORDS: [&str; 16] = [
     "capsched",
     "serve",
     "--port",
@@ -76,10 +79,12 @@ const WORDS: [&str; 14] = [
     "4",
     "--lanes",
     "64",
+    "--drain",
+    "10",
 ];
 
 /// The same with another value in one place.
-fn with_value<'a>(words: &[&'a str; 14], place: usize, value: &'a str) -> [&'a str; 14] {
+fn with_value<'a>(words: &[&'a str; 16], place: usize, value: &'a str) -> [&'a str; 16] {
     let mut words = *words;
     if let Some(word) = words.get_mut(place) {
         *word = value;
@@ -88,7 +93,7 @@ fn with_value<'a>(words: &[&'a str; 14], place: usize, value: &'a str) -> [&'a s
 }
 
 /// Each option at its bounds and past them, and whether that is taken.
-static OPTIONS: [(usize, &str, bool); 22] = [
+static OPTIONS: [(usize, &str, bool); 25] = [
     (PORT, "0", false),
     (PORT, "1", true),
     (PORT, "65535", true),
@@ -111,6 +116,9 @@ static OPTIONS: [(usize, &str, bool); 22] = [
     (LANES, "8", true),
     (LANES, "1024", true),
     (LANES, "1025", false),
+    (DRAIN, "0", true),
+    (DRAIN, "3600", true),
+    (DRAIN, "3601", false),
 ];
 
 /// Whether the words with this value are taken. `None` if the program says neither.
@@ -120,7 +128,8 @@ fn takes<
         + Wait
         + Clock
         + Eprint
-        + Files
+        + Input
+        + Files<File = File>
         + AllocGlobal
         + Sync,
 >(rt: &H, place: usize, value: &str) -> Option<bool> {
@@ -166,7 +175,8 @@ fn is_told<
         + Wait
         + Clock
         + Eprint
-        + Files
+        + Input
+        + Files<File = File>
         + AllocGlobal
         + Sync,
 >(rt: &H, port: &str, settings: &str, fault: (usize, &str, u8, &str, &str)) -> bool {
@@ -261,7 +271,8 @@ fn beside_program<
         + Wait
         + Clock
         + Eprint
-        + Files
+        + Input
+        + Files<File = File>
         + AllocGlobal
         + Sync,
 >(rt: &H, port: u16, words: &[&str], wanted: &str, visit: Visit) -> (bool, Ran) {
@@ -281,7 +292,8 @@ fn visited_on<
         + Wait
         + Clock
         + Eprint
-        + Files
+        + Input
+        + Files<File = File>
         + AllocGlobal
         + Sync,
 >(
@@ -306,7 +318,8 @@ fn visited<
         + Wait
         + Clock
         + Eprint
-        + Files
+        + Input
+        + Files<File = File>
         + AllocGlobal
         + Sync,
 >(rt: &H, daemon: (&str, Visit, &str)) -> io::Result<bool> {

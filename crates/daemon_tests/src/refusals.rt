@@ -95,6 +95,8 @@ fn served_without_memory(rt: HostRuntime) {
         connections: 2,
         journal: 4096,
         lanes: None,
+        drain: None,
+        stats: None,
     };
     let Some(hoard) = Hoard::beside_threads(rt.alloc(), THREADS) else {
         return assert!(rt; false, "no hoard");
@@ -146,6 +148,8 @@ fn no_next_epoch(rt: HostRuntime) {
         connections: 1,
         journal: 4,
         lanes: None,
+        drain: None,
+        stats: None,
     };
     let Some(hoard) = Hoard::beside_threads(rt.alloc(), THREADS) else {
         return assert!(rt; false, "no hoard");

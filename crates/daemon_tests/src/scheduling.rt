@@ -7,7 +7,7 @@ use cap_server::Sizes;
 use cap_testing::{Call, TWO_QUEUES, WantedContainers};
 use cap_workers::Tally;
 use std::alloc::Global;
-use std::io;
+use std::io::{self, Input, StdinLock};
 use std::net::{Net, TcpListener, TcpStream};
 use std::sync::Wait;
 use std::sync::atomic::{AtomicU64, Ordering};
@@ -107,13 +107,21 @@ impl Client for Master {
 /// Whether the master is told its ten grants, as many proposals were made, and the journal has an entry for each of its calls and for each
 /// grant, and no more.
 fn scheduled<
-    H: Net<Listener = TcpListener, Stream = TcpStream> + Threads + Wait + Clock + Eprint + Sync,
+    H: Net<Listener = TcpListener, Stream = TcpStream>
+        + Threads
+        + Wait
+        + Clock
+        + Eprint
+        + Input<Reader = StdinLock<'static>>
+        + Sync,
 >(rt: &H, alloc: Global, workers: u32, lanes: Option<usize>) -> bool {
     let sizes = Sizes {
         workers,
         connections: 1,
         journal: 4096,
         lanes,
+        drain: None,
+        stats: None,
     };
     let master = Master {
         calls: AtomicU64::new(0),
@@ -164,6 +172,8 @@ fn each_proposal_is_committed(rt: HostRuntime) {
         connections: 1,
         journal: 5,
         lanes: Some(64),
+        drain: None,
+        stats: None,
     };
     let gate = Committing::new();
     let client = Witness { gate: &gate };
@@ -200,6 +210,8 @@ fn workers_keep_their_lanes_from_epoch_to_epoch(rt: HostRuntime) {
         connections: 1,
         journal: 4,
         lanes: Some(64),
+        drain: None,
+        stats: None,
     };
     let gate = OwnLanes::new();
     let client = LateMaster {

@@ -135,6 +135,8 @@ fn connections_are_answered(rt: HostRuntime) {
             connections,
             journal,
             lanes,
+            drain: None,
+            stats: None,
         };
         let is_right = ends(&rt, rt.alloc(), &sizes, GateOf::Open, &visit, (0, line));
         assert!(rt; is_right, "{connections} {journal} {line}");
@@ -165,6 +167,8 @@ fn two_workers_propose_at_once(rt: HostRuntime) {
             connections: 1,
             journal: 4096,
             lanes,
+            drain: None,
+            stats: None,
         };
         let gate = Meeting {
             first: Mark::new(),
@@ -237,6 +241,8 @@ fn calls_are_answered_while_a_worker_is_held(rt: HostRuntime) {
             connections: 1,
             journal,
             lanes: None,
+            drain: None,
+            stats: None,
         };
         let gate = Holding {
             held: Mark::new(),

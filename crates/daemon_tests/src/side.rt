@@ -1,10 +1,10 @@
 //! A daemon, and a client beside it.
 use crate::gates::GateOf;
 use cap_config::read_config;
-use cap_server::{Sizes, serve_on};
+use cap_server::{Opened, Sizes, serve_on};
 use cap_session::Counted;
 use std::alloc::Global;
-use std::io;
+use std::io::{self, Input, StdinLock};
 use std::net::{Net, TcpListener, TcpStream};
 use std::sync::Wait;
 use std::thread::{Threads, join};
@@ -41,7 +41,13 @@ pub fn listen<H: Net<Listener = TcpListener, Stream = TcpStream>>(
 /// Runs a daemon with the queues of these property lines on a port of the loopback, in a thread of its own, and the client beside it.
 /// `None` if the lines have a fault, or the system has no port.
 fn beside_daemon<
-    H: Net<Listener = TcpListener, Stream = TcpStream> + Threads + Wait + Clock + Eprint + Sync,
+    H: Net<Listener = TcpListener, Stream = TcpStream>
+        + Threads
+        + Wait
+        + Clock
+        + Eprint
+        + Input<Reader = StdinLock<'static>>
+        + Sync,
     C: Client + Sync,
 >(
     rt: &H,
@@ -68,7 +74,7 @@ fn beside_daemon<
 const PRINTED_MAX: usize = 200;
 
 /// The daemon's exit status, and what it printed. The status is 2 if the lines have a fault, or if a size is out of its bounds.
-pub fn served<H: Net + Threads + Wait + Clock + Eprint + Sync>(
+pub fn served<H: Net + Threads + Wait + Clock + Eprint + Input + Sync>(
     rt: &H,
     alloc: Global,
     lines: &[u8],
@@ -86,7 +92,11 @@ pub fn served<H: Net + Threads + Wait + Clock + Eprint + Sync>(
         return (2, printed);
     }
     let mut writer = Counted::new(&mut printed);
-    let status = serve_on(rt, alloc, listener, sizes, &config, &gate, &mut writer);
+    let opened = Opened {
+        listener,
+        audit: None,
+    };
+    let status = serve_on(rt, alloc, opened, sizes, &config, &gate, &mut writer);
     (status, printed)
 }
 
@@ -120,7 +130,13 @@ pub fn closed_by(outcome: &Outcome) -> Option<(u64, u64)> {
 
 /// Whether a daemon ends with this status and last line, and its client says that all was answered as it has to be.
 pub fn ends<
-    H: Net<Listener = TcpListener, Stream = TcpStream> + Threads + Wait + Clock + Eprint + Sync,
+    H: Net<Listener = TcpListener, Stream = TcpStream>
+        + Threads
+        + Wait
+        + Clock
+        + Eprint
+        + Input<Reader = StdinLock<'static>>
+        + Sync,
     C: Client + Sync,
 >(
     rt: &H,
@@ -138,7 +154,13 @@ pub fn ends<
 
 /// How many epochs a daemon with these queues closes beside this client, with how many entries in all, as `closed_by`.
 pub fn closed<
-    H: Net<Listener = TcpListener, Stream = TcpStream> + Threads + Wait + Clock + Eprint + Sync,
+    H: Net<Listener = TcpListener, Stream = TcpStream>
+        + Threads
+        + Wait
+        + Clock
+        + Eprint
+        + Input<Reader = StdinLock<'static>>
+        + Sync,
     C: Client + Sync,
 >(
     rt: &H,

@@ -4,7 +4,8 @@ use cap_daemon::{Counted, run};
 use refusal_cases::{count_lines, line_of, play_into};
 use std::alloc::{AllocError, Global};
 use std::cell::Cell;
-use std::io::{self, Read, Write};
+use std::fs::File;
+use std::io::{self, Input, Read, Write};
 use std::net::{Net, TcpListener, TcpStream};
 use std::rt::Files;
 use std::sync::Wait;
@@ -149,7 +150,8 @@ fn plays<
         + Wait
         + Clock
         + Eprint
-        + Files
+        + Input
+        + Files<File = File>
         + AllocGlobal
         + Sync,
 >(rt: &H, row: &Row) -> bool {
@@ -189,7 +191,8 @@ fn unlike<
         + Wait
         + Clock
         + Eprint
-        + Files
+        + Input
+        + Files<File = File>
         + AllocGlobal
         + Sync,
 >(rt: &H, rows: &[Row]) -> Option<usize> {

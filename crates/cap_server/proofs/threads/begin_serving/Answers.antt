@@ -3,6 +3,7 @@ use Rattle.std.proofs.Crossing.{crosses}
 use Rattle.cap_shared.proofs.Crossing.{Shared-sync}
 use Rattle.cap_shared.proofs.seat.Seat.TheSendSync as seat
 use Rattle.cap_server.proofs.connection.ClientConnection.TheSendSync as connection
+use Rattle.cap_server.proofs.places.Place.TheSendSync as place
 use Rattle.cap_server.proofs.state.SharedState.TheSendSync as state
 use Rattle.cap_server.proofs.threads.begin_serving.Goals as goal
 
@@ -11,4 +12,4 @@ spawn_scoped-requires-send-F g c κs within =
     let j = c.type_bounds.send-J in
     let h = c.type_bounds.sync-H in
     let w = c.type_bounds.sync-G in
-    search (Shared-sync, connection.the_send, seat.the_send, state.the_sync, crosses, sendable) depth 60
+    search (Shared-sync, connection.the_send, seat.the_send, place.the_sync, state.the_sync, crosses, sendable) depth 60

@@ -17,7 +17,7 @@ const END: Token = Token(1);
 
 /// Waits until a stream can be read, or until it can be written. It waits for one of the two; a stream that is served has one of each.
 #[derive(Drop)]
-pub(crate) struct Poller {
+pub struct Poller {
     poll: Poll,
     events: Events,
     /// Whether the next call on the stream may have an answer. The system reports changes alone, so this stays until a call has had none.
@@ -28,7 +28,7 @@ pub(crate) struct Poller {
 
 impl Poller {
     /// Waits for the stream, and for the end of the epoch. An error means that the system refuses, or that an allocation failed.
-    pub(crate) fn new<H: Net>(
+    pub fn new<H: Net>(
         rt: &H,
         alloc: Global,
         stream: &TcpStream,
@@ -52,12 +52,12 @@ impl Poller {
     }
 
     /// Whether the next call on the stream may have an answer.
-    pub(crate) fn is_ready(&self) -> bool {
+    pub fn is_ready(&self) -> bool {
         self.is_ready
     }
 
     /// Waits until the stream is ready, the epoch ends, or nothing happened for 50 milliseconds. Whether something happened.
-    pub(crate) fn wait(&mut self) -> io::Result<bool> {
+    pub fn wait(&mut self) -> io::Result<bool> {
         let waits = Duration::from_millis(WAITS);
         self.poll.poll(&mut self.events, Some(waits))?;
         for event in &self.events {
@@ -73,7 +73,7 @@ impl Poller {
 
     /// Notes what a call on the stream with so much room was answered: one that used less than its room, or that had no answer, is followed by
     /// a change that the system reports.
-    pub(crate) fn note(&mut self, answer: &io::Result<usize>, room: usize) {
+    pub fn note(&mut self, answer: &io::Result<usize>, room: usize) {
         match answer {
             Ok(count) => {
                 if *count > 0 && *count < room && !self.is_closed {

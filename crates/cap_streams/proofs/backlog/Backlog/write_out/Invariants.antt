@@ -1,7 +1,7 @@
 use Rattle.std.proofs.Common.{◌≡◌}
-use Rattle.cap_server.specs.Sends.{IsLogged}
-use Rattle.cap_server.specs.Backlogs.{sent_bytes, handed_bytes}
-use Rattle.cap_server.proofs.backlog.Backlog.write_out.Given as goal
+use Rattle.cap_streams.specs.Sends.{IsLogged}
+use Rattle.cap_streams.specs.Backlogs.{sent_bytes, handed_bytes}
+use Rattle.cap_streams.proofs.backlog.Backlog.write_out.Given as goal
 
 abbrev pub invariant-loop : goal.invariant-loop
 invariant-loop g l = record {

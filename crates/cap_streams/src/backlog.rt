@@ -9,7 +9,7 @@ use std::time::Clock;
 /// The bytes that were handed over for a client: those that its stream has taken, and after them those that are kept because the client has not
 /// taken them yet, from one epoch to the next.
 #[derive(Drop)]
-pub(crate) struct Backlog {
+pub struct Backlog {
     sent: SentBytes,
     bytes: Vec<u8>,
     /// How many of `bytes` were taken.
@@ -18,11 +18,11 @@ pub(crate) struct Backlog {
 }
 
 impl Backlog {
-    ghost use Rattle.cap_server.specs.Sends.{Sends, IsLogged};
-    ghost use Rattle.cap_server.specs.Backlogs.{kept_bytes, sent_bytes, handed_bytes};
+    ghost use Rattle.cap_streams.specs.Sends.{Sends, IsLogged};
+    ghost use Rattle.cap_streams.specs.Backlogs.{kept_bytes, sent_bytes, handed_bytes};
 
     /// Nothing was handed over.
-    pub(crate) fn new(alloc: Global) -> Backlog
+    pub fn new(alloc: Global) -> Backlog
         ensures { handed_bytes result ≡ [] }
     {
         Backlog {
@@ -33,14 +33,14 @@ impl Backlog {
     }
 
     /// Whether nothing is kept.
-    pub(crate) fn is_empty(&self) -> bool
+    pub fn is_empty(&self) -> bool
         ensures { IsTrue result ↔ (kept_bytes self.now ≡ []) }
     {
         self.taken >= self.bytes.len()
     }
 
     /// Keeps all of these bytes after those that are kept, and says how many they are. An error means that an allocation failed: none is kept then.
-    pub(crate) fn keep(&mut self, bytes: &[u8]) -> io::Result<usize>
+    pub fn keep(&mut self, bytes: &[u8]) -> io::Result<usize>
         ensures count { IfOk result (λ count. count ≡ length bytes.now) }
         ensures kept { kept_bytes self.new
             ≡ (if is_ok result then kept_bytes self.old ++ bytes.now else kept_bytes self.old) }
@@ -53,7 +53,7 @@ impl Backlog {
     }
 
     /// Writes once, where nothing is kept, as `Sender::send` does.
-    pub(crate) fn send<S: Write, H: Clock>(
+    pub fn send<S: Write, H: Clock>(
         &mut self,
         sender: &mut Sender<'_, S, H>,
         bytes: &[u8],
@@ -70,10 +70,7 @@ impl Backlog {
 
     /// Writes what is kept, until the client has taken all of it, or the epoch is ending. What was handed over stays the same: what the stream took is
     /// a beginning of what was kept, and the rest of it is kept still, also after an error.
-    pub(crate) fn write_out<S: Write, H: Clock>(
-        &mut self,
-        sender: &mut Sender<'_, S, H>,
-    ) -> io::Result<()>
+    pub fn write_out<S: Write, H: Clock>(&mut self, sender: &mut Sender<'_, S, H>) -> io::Result<()>
         ensures handed { handed_bytes self.new ≡ handed_bytes self.old }
         ensures stream { IsLogged (S.contents sender.old.stream) (S.contents sender.new.stream)
             (sent_bytes self.old) (sent_bytes self.new) }

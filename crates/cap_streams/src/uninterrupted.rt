@@ -1,6 +1,6 @@
 //! Streams of which a call that a signal interrupts is no failure (`Uninterrupted`).
 ghost use Rattle.std.specs.Prelude.{◌≡◌};
-ghost use Rattle.cap_server.specs.Interrupts.{IsUninterrupted};
+ghost use Rattle.cap_streams.specs.Interrupts.{IsUninterrupted};
 
 use std::io::{self, ErrorKind, Read, Write};
 

@@ -1,7 +1,7 @@
 //! The writing side of a connection's stream (`Sender`), and what was sent by it (`SentBytes`).
 ghost use Rattle.std.specs.Prelude.{◌≡◌, ◌≤◌, [], Some, length, IfOk, IfSome};
 ghost use Rattle.cap_session.specs.Counted.{bytes_in};
-ghost use Rattle.cap_server.specs.Sends.{Sends};
+ghost use Rattle.cap_streams.specs.Sends.{Sends};
 
 use crate::poller::Poller;
 use crate::signal::EndSignal;
@@ -15,7 +15,7 @@ const TAKES_NOTHING: u64 = 5;
 
 /// The writing side of a stream that does not block, and how it is waited for.
 #[derive(Drop)]
-pub(crate) struct Sender<'a, S, H> {
+pub struct Sender<'a, S, H> {
     rt: &'a H,
     stream: S,
     poller: &'a mut Poller,
@@ -23,7 +23,7 @@ pub(crate) struct Sender<'a, S, H> {
 }
 
 impl<'a, S: Write, H: Clock> Sender<'a, S, H> {
-    pub(crate) fn new(
+    pub fn new(
         rt: &'a H,
         stream: S,
         poller: &'a mut Poller,
@@ -84,14 +84,14 @@ impl<'a, S: Write, H: Clock> Sender<'a, S, H> {
 
 /// The bytes that a client's stream has taken, which contracts alone see, and since when it has taken none.
 #[derive(Drop)]
-pub(crate) struct SentBytes {
+pub struct SentBytes {
     log: Log<u8, ()>,
     since: Option<Instant>,
 }
 
 impl SentBytes {
     /// None was sent.
-    pub(crate) fn new() -> SentBytes
+    pub fn new() -> SentBytes
         ensures { bytes_in result.log.items ≡ [] }
     {
         SentBytes {
@@ -101,7 +101,7 @@ impl SentBytes {
     }
 
     /// Writes once, as `Sender::send` does. The bytes that the stream took are noted.
-    pub(crate) fn send<S: Write, H: Clock>(
+    pub fn send<S: Write, H: Clock>(
         &mut self,
         sender: &mut Sender<'_, S, H>,
         bytes: &[u8],

@@ -2,8 +2,8 @@
 ghost use Rattle.std.specs.Prelude.{◌≡◌, Some};
 ghost use Rattle.std.specs.Io.{WritesAtMost};
 ghost use Rattle.std.specs.Io.KnownBytes.{WriteAppends};
-ghost use Rattle.cap_server.specs.Sends.{IsLogged};
-ghost use Rattle.cap_server.specs.Backlogs.{sent_bytes, handed_bytes};
+ghost use Rattle.cap_streams.specs.Sends.{IsLogged};
+ghost use Rattle.cap_streams.specs.Backlogs.{sent_bytes, handed_bytes};
 
 use crate::backlog::Backlog;
 use crate::poller::Poller;
@@ -12,23 +12,28 @@ use crate::signal::EndSignal;
 use crate::uninterrupted::Uninterrupted;
 use std::io::{self, ErrorKind, Read, Write};
 use std::net::TcpStream;
+use std::sync::Wait;
 use std::time::Clock;
 
-/// Reads from a stream that does not block. It is quiet where nothing comes in 50 milliseconds, and as soon as the epoch is ending.
+/// Reads from a stream that does not block. It is quiet where nothing comes in 50 milliseconds, and as soon as the epoch is ending. What it reads
+/// counts for the end of the epoch.
 #[derive(Drop)]
-pub(crate) struct Incoming<'a> {
+pub struct Incoming<'a, H> {
+    rt: &'a H,
     stream: Uninterrupted<&'a TcpStream>,
     poller: &'a mut Poller,
     signal: &'a EndSignal,
 }
 
-impl<'a> Incoming<'a> {
-    pub(crate) fn new(
+impl<'a, H: Wait + Clock> Incoming<'a, H> {
+    pub fn new(
+        rt: &'a H,
         stream: &'a TcpStream,
         poller: &'a mut Poller,
         signal: &'a EndSignal,
-    ) -> Incoming<'a> {
+    ) -> Incoming<'a, H> {
         Incoming {
+            rt,
             stream: Uninterrupted::new(stream),
             poller,
             signal,
@@ -36,7 +41,7 @@ impl<'a> Incoming<'a> {
     }
 }
 
-impl Read for Incoming<'_> {
+impl<H: Wait + Clock> Read for Incoming<'_, H> {
     fn read(&mut self, buf: &mut [u8]) -> io::Result<usize> {
         if !self.signal.is_over() && !self.poller.is_ready() {
             self.poller.wait()?;
@@ -46,6 +51,9 @@ impl Read for Incoming<'_> {
         }
         let answer = self.stream.read(buf);
         self.poller.note(&answer, buf.len());
+        if let Ok(count) = &answer {
+            self.signal.bring(self.rt, *count);
+        }
         answer
     }
 }
@@ -53,21 +61,21 @@ impl Read for Incoming<'_> {
 /// Writes to a stream that does not block. It waits while the client takes nothing, for 5 seconds at most; once the epoch is ending it keeps what
 /// the client does not take at once. What it takes it has sent, in order, but for the last bytes, which its backlog keeps.
 #[derive(Drop)]
-pub(crate) struct Outgoing<'a, S, H> {
+pub struct Outgoing<'a, S, H> {
     sender: Sender<'a, S, H>,
     backlog: Backlog,
 }
 
 impl<'a, S: Write + Drop, H: Clock> Outgoing<'a, S, H> {
     /// Writes by this sender, after what the backlog keeps.
-    pub(crate) fn new(sender: Sender<'a, S, H>, backlog: Backlog) -> Outgoing<'a, S, H>
+    pub fn new(sender: Sender<'a, S, H>, backlog: Backlog) -> Outgoing<'a, S, H>
         ensures { result.backlog ≡ backlog }
     {
         Outgoing { sender, backlog }
     }
 
     /// What was handed over, and what of it is kept.
-    pub(crate) fn into_backlog(self) -> Backlog
+    pub fn into_backlog(self) -> Backlog
         ensures { result ≡ self.entry.backlog }
     {
         let Outgoing { sender: _, backlog } = self;

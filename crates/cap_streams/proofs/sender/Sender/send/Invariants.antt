@@ -1,5 +1,5 @@
 use Rattle.std.specs.Io.KnownBytes.{Keeps}
-use Rattle.cap_server.proofs.sender.Sender.send.Given as goal
+use Rattle.cap_streams.proofs.sender.Sender.send.Given as goal
 
 -- a write that would block takes no byte
 abbrev pub invariant-loop : goal.invariant-loop

@@ -1,7 +1,7 @@
 -- What was handed over for a client: what its stream has taken, and what is kept.
 use Rattle.std.specs.Prelude.{ℕ, List, ◌++◌, drop}
 use Rattle.cap_session.specs.Counted.{bytes_in}
-use Rattle.cap_server.specs.declared.backlog.Backlog.{Backlog}
+use Rattle.cap_streams.specs.declared.backlog.Backlog.{Backlog}
 
 -- the bytes that the stream has taken
 abbrev pub sent_bytes : Backlog → List ℕ

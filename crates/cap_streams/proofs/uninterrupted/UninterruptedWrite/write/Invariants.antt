@@ -1,5 +1,5 @@
 use Rattle.std.specs.Io.KnownBytes.{Keeps}
-use Rattle.cap_server.proofs.uninterrupted.UninterruptedWrite.write.Given as goal
+use Rattle.cap_streams.proofs.uninterrupted.UninterruptedWrite.write.Given as goal
 
 -- an interrupted write takes no byte
 abbrev pub invariant-loop : goal.invariant-loop

@@ -1,6 +1,6 @@
 use Rattle.std.proofs.Common.{◌≡◌, length}
-use Rattle.cap_server.proofs.Sending.{none_left_test}
-use Rattle.cap_server.proofs.backlog.Backlog.is_empty.Goals as goal
+use Rattle.cap_streams.proofs.Sending.{none_left_test}
+use Rattle.cap_streams.proofs.backlog.Backlog.is_empty.Goals as goal
 
 pub returns : goal.returns
 returns c =
