@@ -1,6 +1,6 @@
 //! What workers put into their lanes is committed by whoever holds the cluster: the committer, or a worker (`commit_all`, `commit_lanes`).
-ghost use Rattle.std.specs.Prelude.{◌≡◌};
-ghost use Rattle.cap_workers.specs.Committing.{CommitsSome, CommitsTaken};
+ghost use Rattle.std.specs.Prelude.{◌≡◌, MatchOption};
+ghost use Rattle.cap_workers.specs.Committing.{CommitsNext, CommitsSome, CommitsTaken};
 
 use crate::coordinator::{BATCH, Coordinator, Outcomes};
 use crate::gate::{CommitOutcome, Gate};
@@ -88,11 +88,26 @@ fn commit_waiting<J: Naming, R: Wait>(
         if count >= BATCH {
             break;
         }
-        if let Some((worker, proposal)) = committer.try_take(rt) {
-            let answer = held.commit(seat, proposal);
-            outcomes[count] = Some((worker, CommitOutcome::of(&answer)));
+        if let Some(outcome) = commit_next(rt, held, seat, committer) {
+            outcomes[count] = Some(outcome);
             count += 1;
         }
     }
     outcomes
+}
+
+/// Commits the proposal that comes next in the lanes, if one has come: the number of the worker that put it, and what came of it.
+fn commit_next<J: Naming, R: Wait>(
+    rt: &R,
+    held: &mut Hold<'_, J>,
+    seat: &mut Seat<J>,
+    committer: &mut Committer,
+) -> Option<(u32, CommitOutcome)>
+    ensures { MatchOption result
+        ((seat.new ≡ seat.old) × (committer.new.taken ≡ committer.old.taken))
+        (CommitsNext J.limit seat.old seat.new committer.old committer.new) }
+{
+    let (worker, proposal) = committer.try_take(rt)?;
+    let answer = held.commit(seat, proposal);
+    Some((worker, CommitOutcome::of(&answer)))
 }

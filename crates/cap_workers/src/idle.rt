@@ -1,5 +1,5 @@
 //! A worker between two epochs (`IdleWorker`), and how workers take their clusters from one to the next (`close_epoch`).
-ghost use Rattle.std.specs.Prelude.{◌≡◌, ◌≤◌, ◌+◌, length, IfOk};
+ghost use Rattle.std.specs.Prelude.{◌≡◌, ◌≤◌, ◌+◌, length, map, IfOk};
 ghost use Rattle.cap_shared.specs.Journal.{Replays};
 ghost use Rattle.cap_workers.specs.Idle.{AllAre, AllBegin, AllFollow};
 
@@ -34,13 +34,6 @@ impl IdleWorker {
     }
 }
 
-/// A worker that leaves an epoch, and what has followed its journal.
-#[derive(Drop)]
-struct Leaving<J: Naming> {
-    worker: Worker,
-    replica: Replica<J>,
-}
-
 /// Closes an epoch: all its seats come back, some with workers. Each worker makes what its cluster lacks of the journal again, so it can begin in
 /// the next epoch. If an allocation fails the workers and the cluster are given up.
 pub fn close_epoch<J: Naming>(
@@ -62,12 +55,13 @@ pub fn close_epoch<J: Naming>(
     Ok((closed, workers))
 }
 
-/// Takes workers from their seats, which are put to the others. If an allocation fails they are given up.
+/// Takes workers from their seats, which are put to the others: the workers, each with what has followed the journal. If an allocation fails they
+/// are given up.
 fn leave_all<J: Naming>(
     alloc: Global,
     seats: &mut Vec<Seat<J>>,
     schedulers: Vec<Scheduler<J>>,
-) -> Result<Vec<Leaving<J>>, NoMemory>
+) -> Result<Vec<(Worker, Replica<J>)>, NoMemory>
     ensures seats { IfOk result (λ _.
         length seats.new.items ≡ length seats.old.items + length schedulers.items) }
     ensures follow { IfOk result (λ leaving. AllFollow seats.new.items leaving.items) }
@@ -78,9 +72,12 @@ fn leave_all<J: Naming>(
     for scheduler in schedulers {
         let Scheduler { worker, follower } = scheduler;
         let (seat, replica) = follower.into_parts();
-        if seats.push(seat).is_err() || leaving.push(Leaving { worker, replica }).is_err() {
+        let Ok(()) = seats.push(seat) else {
             return Err(NoMemory);
-        }
+        };
+        let Ok(()) = leaving.push((worker, replica)) else {
+            return Err(NoMemory);
+        };
     }
     Ok(leaving)
 }
@@ -88,7 +85,7 @@ fn leave_all<J: Naming>(
 /// Makes again what the workers' clusters lack of the journal. If an allocation fails the workers are given up.
 fn carry_on<J: Naming>(
     alloc: Global,
-    leaving: Vec<Leaving<J>>,
+    leaving: Vec<(Worker, Replica<J>)>,
     closed: &Closed,
 ) -> Result<Vec<IdleWorker>, NoMemory>
     requires begin { AllBegin closed.now.journal.items leaving.items }
@@ -98,12 +95,36 @@ fn carry_on<J: Naming>(
     let Ok(mut workers) = Vec::with_capacity(alloc, leaving.len()) else {
         return Err(NoMemory);
     };
-    for worker in leaving {
-        let Leaving { worker, replica } = worker;
+    for (worker, replica) in leaving {
         let cluster = replica.close(closed)?;
-        if workers.push(IdleWorker { worker, cluster }).is_err() {
+        let Ok(()) = workers.push(IdleWorker { worker, cluster }) else {
             return Err(NoMemory);
-        }
+        };
     }
     Ok(workers)
+}
+
+/// Begins an epoch that the workers' clusters open: each worker takes the last of the seats. If an allocation fails, or there are too few seats,
+/// the workers are given up.
+pub fn begin_epoch<J: Naming>(
+    alloc: Global,
+    workers: Vec<IdleWorker>,
+    seats: &mut Vec<Seat<J>>,
+) -> Result<Vec<Scheduler<J>>, NoMemory>
+    requires { AllAre J.opening workers.items }
+    ensures { IfOk result (λ schedulers.
+        map (λ s. s.worker) schedulers.items ≡ map (λ w. w.worker) workers.items) }
+{
+    let Ok(mut schedulers) = Vec::with_capacity(alloc, workers.len()) else {
+        return Err(NoMemory);
+    };
+    for worker in workers {
+        let Some(seat) = seats.pop() else {
+            return Err(NoMemory);
+        };
+        let Ok(()) = schedulers.push(worker.begin(alloc, seat)) else {
+            return Err(NoMemory);
+        };
+    }
+    Ok(schedulers)
 }

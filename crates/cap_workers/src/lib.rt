@@ -17,7 +17,7 @@ pub use committing::commit_all;
 pub use coordinator::Coordinator;
 pub use follower::Follower;
 pub use gate::{CommitOutcome, Gate, OpenGate, Point, Tally};
-pub use idle::{IdleWorker, close_epoch};
+pub use idle::{IdleWorker, begin_epoch, close_epoch};
 pub use scheduler::{Direction, Scheduler, StopSignal};
 pub use sessions::{EndCause, SessionEnd, serve_session};
 pub use worker::{Offer, OfferEnd, Turn, TurnEnd, Worker};

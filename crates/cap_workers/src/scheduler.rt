@@ -56,7 +56,7 @@ enum Next {
 }
 
 impl Next {
-    fn after_turn(end: &TurnEnd) -> Next {
+    fn after_turn(end: TurnEnd) -> Next {
         match end {
             TurnEnd::Done(_) | TurnEnd::Rejected(_) => Next::Propose,
             TurnEnd::Nothing => Next::Rest,
@@ -97,8 +97,10 @@ impl<J: Naming> Scheduler<J> {
             if direction.signal.is_raised(rt) {
                 return;
             }
-            let end = self.worker.follow(rt, shared, &mut self.follower, direction.gate);
-            let next = Next::after_turn(&end);
+            let end = self
+                .worker
+                .follow(rt, shared, &mut self.follower, direction.gate);
+            let next = Next::after_turn(end);
             if !self.goes_on(rt, shared, direction.signal, next, &mut pause) {
                 return;
             }
