@@ -1,8 +1,9 @@
 //! An epoch: all tasks over one shared cluster, until its journal is full or all connections have ended (`epoch`).
-ghost use Rattle.std.specs.Prelude.{◌≡◌, ◌≤◌, ◌<◌, length, IfOk};
+ghost use Rattle.std.specs.Prelude.{◌≡◌, ◌≤◌, ◌<◌, ◌+◌, length, IfOk};
+ghost use Rattle.cap_workers.specs.Idle.{AllAre};
 ghost use Rattle.cap_server.specs.Epochs.{LeadsTo};
 
-use crate::participants::{EpochThreads, Lanes, Participants};
+use crate::participants::{EpochThreads, Lanes, Left, Participants};
 use crate::places::Places;
 use crate::state::SharedState;
 use crate::task::Records;
@@ -11,7 +12,7 @@ use cap_base::RESOURCES;
 use cap_commit::Cluster;
 use cap_model::NoMemory;
 use cap_shared::{Blank, Closed, Naming, Seat, Shared};
-use cap_workers::{Coordinator, Gate};
+use cap_workers::{Coordinator, Gate, IdleWorker, begin_epoch, close_epoch};
 use std::alloc::Global;
 use std::io::Input;
 use std::marker::Brand;
@@ -20,43 +21,51 @@ use std::sync::Wait;
 use std::thread::Threads;
 use std::time::Clock;
 
-/// What goes from one epoch to the next: the cluster, and who works on it; and how many entries the last journal had.
+/// What goes from one epoch to the next: the cluster, the workers, each with the same cluster of its own, and who else works on it; and how many
+/// entries the last journal had.
 #[derive(Drop)]
 pub(crate) struct Carried {
     pub cluster: Cluster<RESOURCES>,
+    pub workers: Vec<IdleWorker>,
     pub participants: Participants,
     pub entries: usize,
 }
 
 impl Carried {
-    /// The cluster, and who works on it.
-    fn into_parts(self) -> (Cluster<RESOURCES>, Participants)
-        ensures { result.0.flat ≡ self.cluster.flat }
+    /// The cluster, the workers, and who else works on it.
+    fn into_parts(self) -> (Cluster<RESOURCES>, Vec<IdleWorker>, Participants)
+        ensures cluster { result.0.flat ≡ self.cluster.flat }
+        ensures workers { result.1.items ≡ self.workers.items }
     {
         let Carried {
             cluster,
+            workers,
             participants,
             entries: _,
         } = self;
-        (cluster, participants)
+        (cluster, workers, participants)
     }
 }
 
 /// An epoch over the cluster that the last one left, with a seat for each connection, each worker and the committer: its journal leads from this
-/// cluster to the one that is left. An error means that an allocation failed or that a thread could not be made; the cluster is given up then.
+/// cluster to the one that is left, and each worker has that too. An error means that an allocation failed or that a thread could not be made; the
+/// cluster is given up then.
 pub(crate) fn epoch<H: Net + Threads + Wait + Clock + Eprint + Input + Sync, G: Gate + Sync>(
     rt: &H,
     alloc: Global,
     carried: Carried,
     state: &SharedState<'_, G>,
 ) -> Result<Carried, NoMemory>
-    ensures { IfOk result (λ next.
+    requires { AllAre carried.cluster.flat carried.workers.items }
+    ensures run { IfOk result (λ next.
         LeadsTo state.now.limit carried.cluster.flat next.entries next.cluster.flat) }
+    ensures workers { IfOk result (λ next. AllAre next.cluster.flat next.workers.items) }
 {
     match Blank::new(alloc, state.seats) {
         Ok(blank) => {
-            let (cluster, participants) = carried.into_parts();
-            named_epoch::<Brand, H, G>(rt, alloc, blank, cluster, participants, state)
+            let (cluster, workers, participants) = carried.into_parts();
+            let begun = (workers, participants);
+            named_epoch::<Brand, H, G>(rt, alloc, blank, cluster, begun, state)
         }
         Err(NoMemory) => Err(NoMemory),
     }
@@ -72,28 +81,32 @@ fn named_epoch<
     alloc: Global,
     blank: Blank,
     cluster: Cluster<RESOURCES>,
-    participants: Participants,
+    begun: (Vec<IdleWorker>, Participants),
     state: &SharedState<'_, G>,
 ) -> Result<Carried, NoMemory>
     requires named { blank.0 ≡ J.table }
     requires opening { cluster.flat ≡ J.opening }
+    requires workers { AllAre J.opening begun.0.items }
     requires limit { state.now.limit ≡ J.limit }
     requires seats { blank.1 ≡ J.seats }
     requires count { state.now.seats ≡ J.seats }
     requires some { (1 ≤ J.limit) × (J.limit ≤ 1000000) }
     requires few { (1 ≤ J.seats) × (J.seats ≤ 256) }
-    ensures { IfOk result (λ next.
+    ensures run { IfOk result (λ next.
         LeadsTo state.now.limit cluster.flat next.entries next.cluster.flat) }
+    ensures workers { IfOk result (λ next. AllAre next.cluster.flat next.workers.items) }
 {
     let (shared, seats) = Shared::<J>::open(alloc, blank, cluster, state.limit)?;
-    match work_all(rt, alloc, &shared, state, participants, seats) {
-        Ok((participants, seats)) => {
-            let (carried, records) = parted(shared.close(seats), participants);
-            state.leave(rt, records, carried.participants.acceptor.accepted());
-            Ok(carried)
-        }
-        Err(NoMemory) => Err(NoMemory),
-    }
+    let left = work_all(rt, alloc, &shared, state, begun, seats)?;
+    let Left {
+        participants,
+        schedulers,
+        seats,
+    } = left;
+    let (closed, workers) = close_epoch(alloc, shared, seats, schedulers)?;
+    let (carried, records) = parted(closed, workers, participants);
+    state.leave(rt, records, carried.participants.acceptor.accepted());
+    Ok(carried)
 }
 
 /// Does what is to be done, in threads, until the epoch ends. Who works on comes back, with all seats. An error means that an allocation failed, or
@@ -107,38 +120,48 @@ fn work_all<
     alloc: Global,
     shared: &Shared<J>,
     state: &SharedState<'_, G>,
-    participants: Participants,
+    begun: (Vec<IdleWorker>, Participants),
     seats: Vec<Seat<J>>,
-) -> Result<(Participants, Vec<Seat<J>>), NoMemory>
-    requires { state.now.seats ≡ J.seats }
-    ensures { IfOk result (λ left. length left.1.items ≡ J.seats) }
+) -> Result<Left<J>, NoMemory>
+    requires count { state.now.seats ≡ J.seats }
+    requires workers { AllAre J.opening begun.0.items }
+    ensures { IfOk result (λ left.
+        length left.seats.items + length left.schedulers.items ≡ J.seats) }
 {
+    let (workers, participants) = begun;
+    let mut seats = seats;
+    let schedulers = begin_epoch(alloc, workers, &mut seats)?;
     let lanes = Lanes::new(alloc, state.lanes)?;
-    let running = EpochThreads::new(alloc, seats)?;
+    let running = EpochThreads::new(alloc, seats, schedulers.len())?;
     let common = Common {
         coordinator: Coordinator::new(),
         places: Places::new(alloc, state.seats as usize)?,
     };
     state.signal.lower(rt);
-    let (participants, seats) = run_threads(
+    let left = run_threads(
         rt,
         alloc,
         shared,
         state,
         &common,
         lanes,
-        running,
+        (running, schedulers),
         participants,
     )?;
-    if seats.len() != state.seats as usize {
+    if left.seats.len().checked_add(left.schedulers.len()) != Some(state.seats as usize) {
         return Err(NoMemory);
     }
-    Ok((participants, seats))
+    Ok(left)
 }
 
 /// What a closed epoch leaves for the next, and what is left of it beside that.
-fn parted(closed: Closed, participants: Participants) -> (Carried, Records)
+fn parted(
+    closed: Closed,
+    workers: Vec<IdleWorker>,
+    participants: Participants,
+) -> (Carried, Records)
     ensures cluster { result.0.cluster.flat ≡ closed.cluster.flat }
+    ensures workers { result.0.workers.items ≡ workers.items }
     ensures entries { result.0.entries ≡ length closed.journal.items }
 {
     let Closed {
@@ -148,6 +171,7 @@ fn parted(closed: Closed, participants: Participants) -> (Carried, Records)
     } = closed;
     let carried = Carried {
         cluster,
+        workers,
         participants,
         entries: journal.len(),
     };

@@ -4,34 +4,40 @@ ghost use Rattle.std.specs.Option.{ForSome};
 
 use crate::acceptor::Acceptor;
 use crate::connection::ClientConnection;
-use crate::task::{Done, Remains};
+use crate::task::Done;
 use cap_model::NoMemory;
 use cap_shared::{Naming, Seat};
 use cap_streams::EndSignal;
-use cap_workers::{Committer, Putter, Worker, lanes};
+use cap_workers::{Committer, Putter, Scheduler, lanes};
 use std::alloc::Global;
 use std::sync::Wait;
 use std::thread::{JoinHandle, Threads};
 use std::time::Clock;
 
-/// Who works on from epoch to epoch.
+/// Who works on from epoch to epoch, beside the workers.
 #[derive(Drop)]
 pub(crate) struct Participants {
     pub acceptor: Acceptor,
     pub connections: Vec<ClientConnection>,
-    pub workers: Vec<Worker>,
 }
 
 impl Participants {
     /// Its parts, in their order.
-    pub(crate) fn into_parts(self) -> (Acceptor, Vec<ClientConnection>, Vec<Worker>) {
+    pub(crate) fn into_parts(self) -> (Acceptor, Vec<ClientConnection>) {
         let Participants {
             acceptor,
             connections,
-            workers,
         } = self;
-        (acceptor, connections, workers)
+        (acceptor, connections)
     }
+}
+
+/// What the threads of an epoch leave: who works on, and all seats, those of workers with them.
+#[derive(Drop)]
+pub(crate) struct Left<J: Naming> {
+    pub participants: Participants,
+    pub schedulers: Vec<Scheduler<J>>,
+    pub seats: Vec<Seat<J>>,
 }
 
 /// Both ends of the lanes of an epoch, or nothing.
@@ -69,16 +75,16 @@ impl Lanes {
     }
 }
 
-/// A thread, and the number of the seat that it works with.
+/// A thread, and the number of the seat that it serves a connection with, if it does.
 #[derive(Drop)]
 pub(crate) struct SeatedThread<J: Naming> {
-    seat: u32,
+    seat: Option<u32>,
     thread: JoinHandle<Done<J>>,
 }
 
 impl<J: Naming> SeatedThread<J> {
-    /// A thread that works with the seat of this number.
-    pub(crate) fn new(seat: u32, thread: JoinHandle<Done<J>>) -> SeatedThread<J> {
+    /// A thread that serves a connection with the seat of this number, or none.
+    pub(crate) fn new(seat: Option<u32>, thread: JoinHandle<Done<J>>) -> SeatedThread<J> {
         SeatedThread { seat, thread }
     }
 
@@ -99,7 +105,7 @@ pub(crate) struct EpochThreads<J: Naming> {
     pub waiting: Vec<ClientConnection>,
     /// Those that have no thread and wait for none.
     pub connections: Vec<ClientConnection>,
-    pub workers: Vec<Worker>,
+    pub schedulers: Vec<Scheduler<J>>,
     /// How many connections have ended whose places were not given on yet.
     pub ended: u32,
     /// Whether an allocation failed, or a thread could not be made.
@@ -107,10 +113,15 @@ pub(crate) struct EpochThreads<J: Naming> {
 }
 
 impl<J: Naming> EpochThreads<J> {
-    /// Before the first thread, with all seats. All memory that is needed later is allocated here. If an allocation fails there is none.
-    pub(crate) fn new(alloc: Global, seats: Vec<Seat<J>>) -> Result<EpochThreads<J>, NoMemory> {
-        let count = seats.len();
-        let (Ok(threads), Ok(waiting), Ok(connections), Ok(workers)) = (
+    /// Before the first thread, with all seats but those of so many workers. All memory that is needed later is allocated here. If an allocation fails
+    /// there is none.
+    pub(crate) fn new(
+        alloc: Global,
+        seats: Vec<Seat<J>>,
+        workers: usize,
+    ) -> Result<EpochThreads<J>, NoMemory> {
+        let count = seats.len().saturating_add(workers);
+        let (Ok(threads), Ok(waiting), Ok(connections), Ok(schedulers)) = (
             Vec::with_capacity(alloc, count),
             Vec::with_capacity(alloc, count),
             Vec::with_capacity(alloc, count),
@@ -123,7 +134,7 @@ impl<J: Naming> EpochThreads<J> {
             threads,
             waiting,
             connections,
-            workers,
+            schedulers,
             ended: 0,
             has_failed: false,
         })
@@ -213,27 +224,26 @@ impl<J: Naming> EpochThreads<J> {
 
     /// Takes back what a thread leaves.
     pub(crate) fn take_back(&mut self, done: Done<J>) {
-        let (remains, seat) = done.into_parts();
-        let is_kept = match remains {
-            Remains::Connection(connection) => is_added(&mut self.connections, connection),
-            Remains::Worker(worker) => self.workers.push(worker).is_ok(),
-            Remains::Ended => {
-                self.end_connection();
-                true
+        let is_kept = match done {
+            Done::Connection(connection, seat) => {
+                is_added(&mut self.connections, connection) && self.is_seat_back(seat)
             }
-            Remains::Nothing => true,
+            Done::Ended(seat) => {
+                self.end_connection();
+                self.is_seat_back(seat)
+            }
+            Done::Worker(scheduler) => self.schedulers.push(scheduler).is_ok(),
+            Done::Committer(seat) => self.is_seat_back(seat),
+            Done::Nothing => false,
         };
-        if !is_kept || !self.is_seat_back(seat) {
+        if !is_kept {
             self.has_failed = true;
         }
     }
 
-    /// Takes back a seat. Whether there is one, and memory was found for it.
-    fn is_seat_back(&mut self, seat: Option<Seat<J>>) -> bool {
-        match seat {
-            Some(seat) => self.seats.push(seat).is_ok(),
-            None => false,
-        }
+    /// Takes back a seat. Whether memory was found for it.
+    fn is_seat_back(&mut self, seat: Seat<J>) -> bool {
+        self.seats.push(seat).is_ok()
     }
 
     /// A connection has ended, whose place can be given on.
@@ -250,7 +260,7 @@ impl<J: Naming> EpochThreads<J> {
 
     /// Waits for the thread that works with the seat of this number, whose connection has ended, and takes back what it leaves.
     pub(crate) fn join_ended<H: Threads + Wait>(&mut self, rt: &H, seat: u32) {
-        if let Some(place) = self.threads.iter().position(|it| it.seat == seat) {
+        if let Some(place) = self.threads.iter().position(|it| it.seat == Some(seat)) {
             let done = self.threads.swap_remove(place).join(rt);
             self.take_back(done);
         }
@@ -274,7 +284,7 @@ impl<J: Naming> EpochThreads<J> {
         mut self,
         rt: &H,
         mut acceptor: Acceptor,
-    ) -> Result<(Participants, Vec<Seat<J>>), NoMemory> {
+    ) -> Result<Left<J>, NoMemory> {
         for _ in rt.forever() {
             let Some(thread) = self.threads.pop() else {
                 break;
@@ -287,7 +297,7 @@ impl<J: Naming> EpochThreads<J> {
             threads: _,
             mut waiting,
             mut connections,
-            workers,
+            schedulers,
             ended,
             has_failed,
         } = self;
@@ -295,14 +305,14 @@ impl<J: Naming> EpochThreads<J> {
         if has_failed || connections.append(&mut waiting).is_err() {
             return Err(NoMemory);
         }
-        Ok((
-            Participants {
+        Ok(Left {
+            participants: Participants {
                 acceptor,
                 connections,
-                workers,
             },
+            schedulers,
             seats,
-        ))
+        })
     }
 }
 

@@ -3,6 +3,7 @@ ghost use Rattle.std.specs.Prelude.{◌≡◌, ◌<◌, ◌≤◌, ◌↔◌, Er
 ghost use Rattle.std.specs.Io.KnownBytes.{Appends};
 ghost use Rattle.cap_model.specs.Flat.{opened_cluster};
 ghost use Rattle.cap_session.specs.Counted.{state_of, inner_of, CanCount};
+ghost use Rattle.cap_workers.specs.Idle.{AllAre};
 ghost use Rattle.cap_server.specs.Bounds.{IsAllowed};
 ghost use Rattle.cap_server.specs.Epochs.{LeadsThrough, one_more};
 ghost use Rattle.cap_server.specs.Printed.{Prints, IsStarved, IsRefused, Closes, Ends, listening_line};
@@ -18,7 +19,7 @@ use cap_model::NoMemory;
 use cap_records::{AuditFile, Stats};
 use cap_session::{Counted, write_out};
 use cap_streams::EndSignal;
-use cap_workers::{Gate, Worker};
+use cap_workers::{Gate, IdleWorker, Worker};
 use std::alloc::Global;
 use std::fs::File;
 use std::io::{self, ErrorKind, Input, Write};
@@ -194,7 +195,8 @@ fn serve_all<H: Net + Threads + Wait + Clock + Eprint + Input + Sync, G: Gate + 
     carried: Carried,
     writer: &mut Counted<W>,
 ) -> u8
-    requires { CanCount (state_of writer.old) }
+    requires writer { CanCount (state_of writer.old) }
+    requires workers { AllAre carried.cluster.flat carried.workers.items }
     ensures status { result < 4 }
     ensures failed { (state_of writer.old).failures < (state_of writer.new).failures → result ≡ 1 }
     ensures printed { Prints (state_of writer.old) (state_of writer.new)
@@ -256,32 +258,44 @@ fn port_of(listener: &TcpListener) -> io::Result<u16> {
     Ok(listener.local_addr()?.port())
 }
 
-/// The cluster of the settings, and the workers. An error means that an allocation failed.
+/// The cluster of the settings, and the workers, each with the same. An error means that an allocation failed.
 fn begin(
     alloc: Global,
     config: &Config<RESOURCES>,
     sizes: &Sizes,
     acceptor: Acceptor,
 ) -> Result<Carried, NoMemory>
-    ensures { IfOk result (λ carried. carried.cluster.flat ≡ opened_cluster config.now) }
+    ensures cluster { IfOk result (λ carried. carried.cluster.flat ≡ opened_cluster config.now) }
+    ensures workers { IfOk result (λ carried.
+        AllAre (opened_cluster config.now) carried.workers.items) }
 {
-    let workers = workers_of(alloc, sizes.workers)?;
+    let workers = workers_of(alloc, config, sizes.workers)?;
     Ok(Carried {
         cluster: Cluster::from_config(alloc, config)?,
+        workers,
         participants: Participants {
             acceptor,
             connections: Vec::new(alloc),
-            workers,
         },
         entries: 0,
     })
 }
 
-/// So many workers, numbered from 0. An error means that an allocation failed.
-fn workers_of(alloc: Global, count: u32) -> Result<Vec<Worker>, NoMemory> {
+/// So many workers, numbered from 0, each with the cluster of the settings. An error means that an allocation failed.
+fn workers_of(
+    alloc: Global,
+    config: &Config<RESOURCES>,
+    count: u32,
+) -> Result<Vec<IdleWorker>, NoMemory>
+    ensures { IfOk result (λ workers. AllAre (opened_cluster config.now) workers.items) }
+{
     let mut workers = Vec::new(alloc);
     for number in 0..count {
-        let Ok(()) = workers.push(Worker::new(number)) else {
+        let worker = IdleWorker {
+            worker: Worker::new(number),
+            cluster: Cluster::from_config(alloc, config)?,
+        };
+        let Ok(()) = workers.push(worker) else {
             return Err(NoMemory);
         };
     }
@@ -311,6 +325,7 @@ fn run_all<H: Net + Threads + Wait + Clock + Eprint + Input + Sync, G: Gate + Sy
     state: &SharedState<'_, G>,
     carried: Carried,
 ) -> Result<(Totals, Carried), NoMemory>
+    requires { AllAre carried.cluster.flat carried.workers.items }
     ensures { IfOk result (λ run.
         LeadsThrough state.now.limit carried.cluster.flat run.0 run.1.cluster.flat) }
 {
@@ -331,6 +346,7 @@ fn run_epochs<H: Net + Threads + Wait + Clock + Eprint + Input + Sync, G: Gate +
     state: &SharedState<'_, G>,
     carried: Carried,
 ) -> Result<(Totals, Carried), NoMemory>
+    requires { AllAre carried.cluster.flat carried.workers.items }
     ensures { IfOk result (λ run.
         LeadsThrough state.now.limit carried.cluster.flat run.0 run.1.cluster.flat) }
 {

@@ -1,14 +1,14 @@
 //! What the threads of an epoch do: those of workers and of the committer (`Task`), and those that serve connections.
+ghost use Rattle.cap_server.specs.Tasks.{Schedules};
+
 use crate::connection::ClientConnection;
 use crate::places::{Given, Place};
 use crate::state::SharedState;
 use cap_shared::{Entry, Naming, Seat, SeatReport, Shared};
 use cap_streams::EndSignal;
 use cap_workers::{
-    Committer, Coordinator, Gate, Putter, StopSignal, Worker, commit_all, schedule,
-    schedule_by_lane,
+    Committer, Coordinator, Direction, Gate, Putter, Scheduler, StopSignal, commit_all,
 };
-use std::alloc::Global;
 use std::sync::Wait;
 use std::time::{Clock, Duration};
 
@@ -21,11 +21,11 @@ pub(crate) struct Records {
 
 /// What a thread does in an epoch that serves no connection.
 #[derive(Drop)]
-pub(crate) enum Task {
+pub(crate) enum Task<J: Naming> {
     /// Schedules, through a lane if it has one.
-    Schedule(Worker, Option<Putter>),
+    Schedule(Scheduler<J>, Option<Putter>),
     /// Commits what workers put into their lanes.
-    Commit(Committer),
+    Commit(Committer, Seat<J>),
 }
 
 /// When those that schedule leave an epoch: as it ends.
@@ -51,64 +51,38 @@ impl StopSignal for Leaving<'_> {
     }
 }
 
-/// What a thread leaves for the next epoch.
+/// What a thread leaves.
 #[derive(Drop)]
-pub(crate) enum Remains {
-    Connection(ClientConnection),
-    Worker(Worker),
-    /// The connection has ended.
-    Ended,
-    /// The next epoch has a committer of its own.
+pub(crate) enum Done<J: Naming> {
+    /// A connection that is served on, and its seat.
+    Connection(ClientConnection, Seat<J>),
+    /// The connection has ended that was served with this seat.
+    Ended(Seat<J>),
+    Worker(Scheduler<J>),
+    /// The committer's seat. The next epoch has a committer of its own.
+    Committer(Seat<J>),
+    /// Nothing was given to the thread.
     Nothing,
 }
 
-/// A task that was done in an epoch, and the seat that it was done with, if there was one.
-#[derive(Drop)]
-pub(crate) struct Done<J: Naming> {
-    pub remains: Remains,
-    pub seat: Option<Seat<J>>,
-}
-
-impl<J: Naming> Done<J> {
-    /// What remains, and the seat.
-    pub(crate) fn into_parts(self) -> (Remains, Option<Seat<J>>) {
-        let Done { remains, seat } = self;
-        (remains, seat)
-    }
-}
-
-impl Task {
+impl<J: Naming> Task<J> {
     /// Does the task in an epoch. It ends once the epoch does; the committer's once the workers have ended.
-    pub(crate) fn work<J: Naming, H: Wait + Clock, G: Gate>(
+    pub(crate) fn work<H: Wait + Clock, G: Gate>(
         self,
         rt: &H,
-        alloc: Global,
         shared: &Shared<J>,
         state: &SharedState<'_, G>,
         coordinator: &Coordinator,
-        mut seat: Seat<J>,
     ) -> Done<J> {
-        let remains = match self {
-            Task::Schedule(worker, putter) => {
-                propose(
-                    rt,
-                    alloc,
-                    shared,
-                    &mut seat,
-                    state,
-                    coordinator,
-                    worker,
-                    putter,
-                )
+        match self {
+            Task::Schedule(mut scheduler, putter) => {
+                propose(rt, shared, state, coordinator, &mut scheduler, putter);
+                Done::Worker(scheduler)
             }
-            Task::Commit(committer) => {
+            Task::Commit(committer, mut seat) => {
                 commit_all(rt, shared, &mut seat, coordinator, &state.gate, committer);
-                Remains::Nothing
+                Done::Committer(seat)
             }
-        };
-        Done {
-            remains,
-            seat: Some(seat),
         }
     }
 }
@@ -127,61 +101,42 @@ pub(crate) fn serve<J: Naming, H: Wait + Clock, G>(
         },
     ) = place.take(rt)
     else {
-        return Done {
-            remains: Remains::Nothing,
-            seat: None,
-        };
+        return Done::Nothing;
     };
-    let remains = match connection.serve(rt, shared, &mut seat, &state.signal) {
-        Some(connection) => Remains::Connection(connection),
+    match connection.serve(rt, shared, &mut seat, &state.signal) {
+        Some(connection) => Done::Connection(connection, seat),
         None => {
             state.end_connections(rt, 1);
             place.note_end();
             state.wake();
-            Remains::Ended
+            Done::Ended(seat)
         }
-    };
-    Done {
-        remains,
-        seat: Some(seat),
     }
 }
 
 /// Schedules until the journal is full or the epoch ends; where the journal is full the epoch ends.
 fn propose<J: Naming, H: Wait + Clock, G: Gate>(
     rt: &H,
-    alloc: Global,
     shared: &Shared<J>,
-    seat: &mut Seat<J>,
     state: &SharedState<'_, G>,
     coordinator: &Coordinator,
-    mut worker: Worker,
+    scheduler: &mut Scheduler<J>,
     putter: Option<Putter>,
-) -> Remains {
-    let (signal, gate) = (&Leaving::by(&state.signal), &state.gate);
+)
+    ensures { Schedules J.opening J.limit scheduler.old.worker scheduler.old.follower
+        scheduler.new.worker scheduler.new.follower putter }
+{
+    let leaving = Leaving::by(&state.signal);
+    let direction = Direction {
+        coordinator,
+        signal: &leaving,
+        gate: &state.gate,
+    };
     match putter {
-        Some(putter) => schedule_by_lane(
-            rt,
-            alloc,
-            shared,
-            seat,
-            coordinator,
-            signal,
-            gate,
-            &mut worker,
-            putter,
-        ),
-        None => schedule(
-            rt,
-            alloc,
-            shared,
-            seat,
-            coordinator,
-            signal,
-            gate,
-            &mut worker,
-        ),
+        Some(putter) => {
+            let _ended = scheduler.schedule_by_lane(rt, shared, &direction, putter);
+        }
+        None => scheduler.schedule(rt, shared, &direction),
     }
     state.signal.raise(rt);
-    Remains::Worker(worker)
 }

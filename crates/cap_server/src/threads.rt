@@ -3,14 +3,14 @@ ghost use denote.Param.Send.{IsSend, IsSync};
 
 use crate::acceptor::{Accept, Acceptor};
 use crate::connection::{ClientConnection, Refused};
-use crate::participants::{EpochThreads, Lanes, Participants, SeatedThread};
+use crate::participants::{EpochThreads, Lanes, Left, Participants, SeatedThread};
 use crate::places::{Given, Place, Places};
 use crate::state::SharedState;
 use crate::task::{Done, Task, serve};
 use cap_model::NoMemory;
-use cap_shared::{Naming, Seat, Shared};
+use cap_shared::{Naming, Shared};
 use cap_streams::Course;
-use cap_workers::{Coordinator, Gate, Putter};
+use cap_workers::{Coordinator, Gate, Putter, Scheduler};
 use std::alloc::Global;
 use std::io::Input;
 use std::net::{Net, TcpStream};
@@ -53,9 +53,9 @@ pub(crate) fn run_threads<
     state: &SharedState<'_, G>,
     common: &Common<J>,
     lanes: Lanes,
-    running: EpochThreads<J>,
+    begun: (EpochThreads<J>, Vec<Scheduler<J>>),
     participants: Participants,
-) -> Result<(Participants, Vec<Seat<J>>), NoMemory> {
+) -> Result<Left<J>, NoMemory> {
     thread::scope(
         thread::scope_env(),
         rt,
@@ -70,7 +70,7 @@ pub(crate) fn run_threads<
                 state,
                 common,
             };
-            epoch.run(lanes, running, participants)
+            epoch.run(lanes, begun, participants)
         },
     )
 }
@@ -98,22 +98,13 @@ impl<
     fn run(
         &self,
         lanes: Lanes,
-        mut running: EpochThreads<J>,
+        begun: (EpochThreads<J>, Vec<Scheduler<J>>),
         participants: Participants,
-    ) -> Result<(Participants, Vec<Seat<J>>), NoMemory> {
-        let (mut acceptor, connections, workers) = participants.into_parts();
-        let (committer, mut putters) = lanes.into_parts();
-        if let Some(committer) = committer
-            && !self.begin(&mut running, Task::Commit(committer))
-        {
+    ) -> Result<Left<J>, NoMemory> {
+        let (mut running, schedulers) = begun;
+        let (mut acceptor, connections) = participants.into_parts();
+        if !self.begin_tasks(&mut running, lanes, schedulers) {
             return Err(NoMemory);
-        }
-        for worker in workers {
-            let putter = lane_of(&mut putters, worker.number);
-            self.begin(&mut running, Task::Schedule(worker, putter));
-        }
-        for putter in putters {
-            let _ended = putter.finish(self.rt);
         }
         for connection in connections {
             running.wait_or_watch(self.rt, &self.state.signal, &acceptor, connection);
@@ -122,6 +113,30 @@ impl<
         self.clear();
         self.attend(&mut running, &mut acceptor);
         running.join(self.rt, acceptor)
+    }
+
+    /// Begins the threads of the committer, if there are lanes, and of the workers. Whether the committer's was made.
+    fn begin_tasks(
+        &self,
+        running: &mut EpochThreads<J>,
+        lanes: Lanes,
+        schedulers: Vec<Scheduler<J>>,
+    ) -> bool {
+        let (committer, mut putters) = lanes.into_parts();
+        if let Some(committer) = committer {
+            let Some(seat) = running.next_seat() else {
+                return false;
+            };
+            if !self.begin(running, Task::Commit(committer, seat)) {
+                return false;
+            }
+        }
+        for scheduler in schedulers {
+            let putter = lane_of(&mut putters, scheduler.worker.number);
+            self.begin(running, Task::Schedule(scheduler, putter));
+        }
+        finish_all(self.rt, putters);
+        true
     }
 
     /// Begins a thread for a connection. Where the epoch is ending that is left to the next one. Whether a thread could be made, or none was to be:
@@ -146,7 +161,7 @@ impl<
         place.give(self.rt, connection, seat);
         match begin_serving(self.scope, self.rt, self.shared, self.state, place) {
             Some(thread) => {
-                running.add(self.rt, signal, Some(SeatedThread::new(number, thread)))
+                running.add(self.rt, signal, Some(SeatedThread::new(Some(number), thread)))
             }
             None => self.take_back(running, place),
         }
@@ -187,24 +202,18 @@ impl<
     }
 
     /// Begins a thread for a task. Where none can be made for 5 seconds the epoch ends. Whether it goes on.
-    fn begin(&self, running: &mut EpochThreads<J>, task: Task) -> bool {
-        let Some(seat) = running.next_seat() else {
-            return running.fail(self.rt, &self.state.signal);
-        };
-        let number = seat.number();
+    fn begin(&self, running: &mut EpochThreads<J>, task: Task<J>) -> bool {
         let begun = begin_thread(
             self.scope,
             self.rt,
-            self.alloc,
             self.shared,
             self.state,
             &self.common.coordinator,
             task,
-            seat,
         );
         match begun {
             Begun::Thread(thread) => {
-                let thread = SeatedThread::new(number, thread);
+                let thread = SeatedThread::new(None, thread);
                 running.add(self.rt, &self.state.signal, Some(thread))
             }
             Begun::Done(done) => {
@@ -365,6 +374,13 @@ fn lane_of(putters: &mut Vec<Putter>, number: u32) -> Option<Putter> {
     Some(putters.swap_remove(place))
 }
 
+/// Ends the lanes that no worker has.
+fn finish_all<H: Wait>(rt: &H, putters: Vec<Putter>) {
+    for putter in putters {
+        let _ended = putter.finish(rt);
+    }
+}
+
 /// Begins a thread for the connection that was given, which it takes. `None` if none can be made: what was given stays.
 fn begin_serving<'s, 'a, E, J: Naming + Send + Sync, H: Wait + Clock + Sync, G: Sync>(
     scope: &'s Scope<'s, E>,
@@ -392,15 +408,13 @@ fn begin_thread<
 >(
     scope: &'s Scope<'s, E>,
     rt: &'s H,
-    alloc: Global,
     shared: &'s Shared<J>,
     state: &'s SharedState<'a, G>,
     coordinator: &'s Coordinator,
-    task: Task,
-    seat: Seat<J>,
+    task: Task<J>,
 ) -> Begun<J> {
-    let ends_alone = !matches!(task, Task::Commit(_));
-    let mut work = move || task.work(rt, alloc, shared, state, coordinator, seat);
+    let ends_alone = !matches!(task, Task::Commit(..));
+    let mut work = move || task.work(rt, shared, state, coordinator);
     for tries in 0..TRIES {
         match scope.spawn(work) {
             Ok(thread) => return Begun::Thread(thread),

@@ -1,15 +1,17 @@
 -- What a turn on a replica chooses and commits.
-use Rattle.cap_workers.proofs.Prelude.{◌≡◌, ℕ, Option, Some, List, [], ◌∷◌, inl, inr, sym, subst, resources, NodeProposal, choice_from, Flat, Seen, sight_in, Parts, sight_of_copy, HasMore, Entry, Moment, Noted, Sitting, Chooses, IsCommitted}
+use Rattle.cap_workers.proofs.Prelude.{◌≡◌, ℕ, Option, Some, List, [], ◌∷◌, inl, inr, ap, sym, ◌∙◌, subst, resources, NodeProposal, choice_from, Flat, HasMore, Entry, Moment, Noted, Sitting, Chooses, IsCommitted}
 use Rattle.cap_model.specs.Sight.{sight_of}
-use Rattle.cap_sights.specs.Sights.{ShowTheSame}
 use Rattle.cap_shared.specs.declared.history.NotedAnswer.TheVariants as answer
 use Rattle.cap_shared.specs.Following.{Follows}
 use Rattle.cap_shared.specs.Journal.{Replays}
 use Rattle.cap_shared.proofs.Following.{follows_more}
-use Rattle.cap_workers.specs.Following.{IsUnchosen, IsFollowingTurn}
+use Rattle.cap_lanes.specs.Sides.{WorkerSide}
+use Rattle.cap_workers.specs.Following.{IsUnchosen, IsFollowingOffer, IsFollowingTurn}
+use Rattle.cap_workers.specs.Worker.{IsPut}
+use Rattle.cap_workers.specs.declared.worker.OfferEnd.{OfferEnd}
+use Rattle.cap_workers.specs.declared.worker.OfferEnd.TheVariants as offers
 use Rattle.cap_workers.specs.declared.worker.TurnEnd.{TurnEnd}
 use Rattle.cap_workers.specs.declared.worker.TurnEnd.TheVariants as ends
-use Rattle.cap_workers.proofs.Turning.{chosen_on}
 
 -- a replica follows the same once its seat was answered more
 more_follows : (log : List Entry) (old new : Sitting) (ms : List Moment) → HasMore old new ms → Follows log old.past → Follows log new.past
@@ -22,10 +24,16 @@ committed_follows log p limit old new (ends.Rejected reason) h f = more_follows 
 committed_follows log p limit old new (ends.Sealed back) h f = more_follows log old new _ h.1.2 f
 committed_follows log p limit old new ends.NoMemory h f = more_follows log old new _ h.1.2 f
 
--- the choice on what is arranged of a copy of the replica
-pub chosen_behind : {opening : Flat resources} {old new : Sitting} (copied : Parts) (snapshot : Seen) {choice : Option NodeProposal} (start : ℕ) (es : List Entry) (cluster : Flat resources) → Replays opening es cluster → HasMore old new (Noted es answer.Copied ∷ []) →
-    ShowTheSame (sight_of_copy resources copied) (sight_of cluster) → sight_in resources snapshot ≡ sight_of_copy resources copied → choice ≡ choice_from (sight_in resources snapshot) start → Chooses opening start old new choice
-chosen_behind copied snapshot start es cluster run noted same arranged is = chosen_on copied snapshot start arranged (es, cluster, run, same, noted) is
+-- the choice on a replica that has caught up
+pub chosen_on_replica : {opening : Flat resources} {old new : Sitting} {choice : Option NodeProposal} (start : ℕ) (es log : List Entry) (cluster flat : Flat resources) → log ≡ es → Replays opening log cluster → HasMore old new (Noted es answer.Copied ∷ []) →
+    flat ≡ cluster → choice ≡ choice_from (sight_of flat) start → Chooses opening start old new choice
+chosen_on_replica {opening} start es log cluster flat all run noted same is = record {
+  entries = es;
+  cluster = cluster;
+  replays = subst (λ (l : List Entry). Replays opening l cluster) all run;
+  noted = noted;
+  chosen = is ∙ ap (λ (x : Flat resources). choice_from (sight_of x) start) same;
+}
 
 -- the choice went to one commit
 pub following_turn : (opening : Flat resources) (limit start : ℕ) (old mid new : Sitting) (p : NodeProposal) (end : TurnEnd) → Chooses opening start old mid (Some p) → IsCommitted p limit mid new end → IsFollowingTurn opening limit start old new end
@@ -38,3 +46,10 @@ following_turn opening limit start old mid new p ends.NoMemory c h = inl (inr (m
 pub unchosen_turn : (opening : Flat resources) (limit start : ℕ) (old new : Sitting) → IsUnchosen opening old new → IsFollowingTurn opening limit start old new ends.NoMemory
 unchosen_turn opening limit start old new (inl same) = inl (inl same)
 unchosen_turn opening limit start old new (inr noted) = inr noted
+
+-- the choice went to one put
+pub following_offer : (opening : Flat resources) (start : ℕ) (old new : Sitting) (before after : WorkerSide) (p : NodeProposal) (end : OfferEnd) → Chooses opening start old new (Some p) → IsPut p before after end → IsFollowingOffer opening start old new before after end
+following_offer opening start old new before after p offers.Nothing c h = absurd h
+following_offer opening start old new before after p offers.Put c h = (p, c, h)
+following_offer opening start old new before after p (offers.Refused back) c h = (p, c, h)
+following_offer opening start old new before after p offers.NoMemory c h = absurd h

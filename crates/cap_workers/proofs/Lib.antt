@@ -6,3 +6,6 @@ mod Rounds
 mod Together
 mod Turning
 mod Following
+mod Commits
+mod Leavers
+mod Turns

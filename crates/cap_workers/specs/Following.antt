@@ -1,4 +1,4 @@
--- What a turn does on a replica of the worker's own.
+-- What a turn and an offer do on a replica of the worker's own.
 use Rattle.std.specs.Prelude.{◌≡◌, ◌⊎◌, ℕ, List, [], ◌∷◌}
 use Rattle.cap_base.specs.Limits.{resources}
 use Rattle.cap_model.specs.Flat.{Flat}
@@ -8,7 +8,10 @@ use Rattle.cap_shared.specs.declared.history.Moment.TheVariants.{Noted}
 use Rattle.cap_shared.specs.declared.history.Sitting.{Sitting}
 use Rattle.cap_shared.specs.Calls.{HasMore}
 use Rattle.cap_shared.specs.Journal.{Replays}
-use Rattle.cap_workers.specs.Worker.{IsTurn}
+use Rattle.cap_lanes.specs.Sides.{WorkerSide}
+use Rattle.cap_workers.specs.Worker.{IsOffer, IsTurn}
+use Rattle.cap_workers.specs.declared.worker.OfferEnd.{OfferEnd}
+use Rattle.cap_workers.specs.declared.worker.OfferEnd.TheVariants as offers
 use Rattle.cap_workers.specs.declared.worker.TurnEnd.{TurnEnd}
 use Rattle.cap_workers.specs.declared.worker.TurnEnd.TheVariants as ends
 
@@ -28,3 +31,10 @@ IsFollowingTurn opening limit start old new ends.Nothing = IsTurn opening limit 
 IsFollowingTurn opening limit start old new (ends.Done event) = IsTurn opening limit start old new (ends.Done event)
 IsFollowingTurn opening limit start old new (ends.Rejected reason) = IsTurn opening limit start old new (ends.Rejected reason)
 IsFollowingTurn opening limit start old new (ends.Sealed back) = IsTurn opening limit start old new (ends.Sealed back)
+
+-- An offer, as on a copy; but where memory was refused once the cluster was given back, one copy is noted and nothing was put.
+abbrev pub IsFollowingOffer : Flat resources → ℕ → Sitting → Sitting → WorkerSide → WorkerSide → OfferEnd → Type 0
+IsFollowingOffer opening start old new before after offers.NoMemory = IsUnchosen opening old new × (after ≡ before)
+IsFollowingOffer opening start old new before after offers.Nothing = IsOffer opening start old new before after offers.Nothing
+IsFollowingOffer opening start old new before after offers.Put = IsOffer opening start old new before after offers.Put
+IsFollowingOffer opening start old new before after (offers.Refused back) = IsOffer opening start old new before after (offers.Refused back)

@@ -1,5 +1,5 @@
 -- What a turn of a worker does.
-use Rattle.std.specs.Prelude.{◌≡◌, ◌⊎◌, ℕ, List, [], ◌∷◌, Option, Some, None, Result, Ok, Err, MatchResult}
+use Rattle.std.specs.Prelude.{◌≡◌, ◌⊎◌, ℕ, ◌+◌, ◌%◌, ◌^◌, List, [], ◌∷◌, Option, Some, None, Result, Ok, Err}
 use Rattle.cap_base.specs.Limits.{resources}
 use Rattle.cap_model.specs.Admission.{NodeProposal}
 use Rattle.cap_model.specs.Candidates.{choice_from}
@@ -19,9 +19,14 @@ use Rattle.cap_lanes.specs.Sides.{WorkerSide, after_put}
 use Rattle.cap_workers.specs.declared.gate.CommitOutcome.{CommitOutcome}
 use Rattle.cap_workers.specs.declared.gate.CommitOutcome.TheVariants as outcomes
 use Rattle.cap_workers.specs.declared.worker.TurnEnd.{TurnEnd}
+use Rattle.cap_workers.specs.declared.worker.Worker.{Worker}
 use Rattle.cap_workers.specs.declared.worker.TurnEnd.TheVariants as ends
 use Rattle.cap_workers.specs.declared.worker.OfferEnd.{OfferEnd}
 use Rattle.cap_workers.specs.declared.worker.OfferEnd.TheVariants as offers
+
+-- the worker before its next turn, which starts one node later; after the last number at 0
+abbrev pub next_turn : Worker → Worker
+next_turn w = record { number = w.number; start = (w.start + 1) % 2 ^ 32 }
 
 -- one copy of the cluster is noted, and this is the choice on the cluster of that note, from the starting node
 pub record Chooses (opening : Flat resources) (start : ℕ) (old new : Sitting) (choice : Option NodeProposal) : Type 0 where
@@ -89,8 +94,3 @@ IsOffer opening start old new before after offers.Nothing = Chooses opening star
 IsOffer opening start old new before after offers.Put = PutsChoice opening start old new before after offers.Put
 IsOffer opening start old new before after (offers.Refused back) = PutsChoice opening start old new before after (offers.Refused back)
 IsOffer opening start old new before after offers.NoMemory = (new ≡ old) × (after ≡ before)
-
--- the proposal of a turn was committed once; then the next turn has begun, or memory was refused for its copy and nothing was noted
-abbrev pub GoesOn : {E : Type 0} → Flat resources → ℕ → ℕ → NodeProposal → Sitting → Sitting → TurnEnd → Result (Option NodeProposal) E → Type 0
-GoesOn opening limit start p old new end choice =
-    (mid : Sitting) × IsCommitted p limit old mid end × MatchResult choice (Chooses opening start mid new) (λ _. new ≡ mid)

@@ -1,36 +1,8 @@
 //! What the workers and the committer of an epoch share beside the cluster (`Coordinator`).
 use crate::gate::{CommitOutcome, Gate, Point};
 use cap_lanes::Committer;
-use std::sync::atomic::{AtomicU64, Ordering};
 use std::sync::{Mutex, MutexGuard, Wait};
 use std::thread::Parker;
-
-/// What the worker has that looks whether there is something to do, while the others that found nothing wait for it.
-#[derive(Drop)]
-pub(crate) struct Watch;
-
-/// What the worker has that takes turns alone.
-#[derive(Drop)]
-pub(crate) struct Alone;
-
-/// A worker, as long as it is counted among those that do the same.
-pub(crate) struct OneMore<'a> {
-    count: &'a AtomicU64,
-}
-
-impl OneMore<'_> {
-    fn of(count: &AtomicU64) -> OneMore<'_> {
-        count.fetch_add(1, Ordering::SeqCst);
-        OneMore { count }
-    }
-}
-
-impl Drop for OneMore<'_> {
-    fn drop(self) {
-        let OneMore { count } = self;
-        count.fetch_sub(1, Ordering::SeqCst);
-    }
-}
 
 /// How many proposals are committed at most while the cluster is held once.
 pub(crate) const BATCH: usize = 8;
@@ -59,16 +31,6 @@ impl Mailbox {
 /// What the workers and the committer of an epoch share beside the cluster.
 #[derive(Drop)]
 pub struct Coordinator {
-    /// How many workers schedule.
-    workers: AtomicU64,
-    /// One worker at a time looks whether there is something to do. The others that found nothing wait until it has found much.
-    watch: Mutex<Watch>,
-    /// Workers whose proposals were rejected take turns one at a time.
-    alone: Mutex<Alone>,
-    /// How many workers take turns.
-    busy: AtomicU64,
-    /// How many of them propose on a snapshot that is shown to others, or have not committed yet what they proposed on one.
-    proposing: AtomicU64,
     /// The committer's end of the lanes, while its thread runs. Who holds the cluster takes it for a while, and commits what it takes out of them.
     lanes: Mutex<Option<Committer>>,
     /// Where the committer's thread waits.
@@ -81,11 +43,6 @@ impl Coordinator {
     /// Before the first turn of an epoch.
     pub fn new() -> Coordinator {
         Coordinator {
-            workers: AtomicU64::new(0),
-            watch: Mutex::new(Watch),
-            alone: Mutex::new(Alone),
-            busy: AtomicU64::new(0),
-            proposing: AtomicU64::new(0),
             lanes: Mutex::new(None),
             committer: Parker::new(),
             answers: [
@@ -99,51 +56,6 @@ impl Coordinator {
                 Mailbox::new(),
             ],
         }
-    }
-
-    /// A worker schedules from now on.
-    pub(crate) fn schedules(&self) -> OneMore<'_> {
-        OneMore::of(&self.workers)
-    }
-
-    /// How many workers schedule.
-    pub(crate) fn workers(&self) -> u64 {
-        self.workers.load(Ordering::SeqCst)
-    }
-
-    /// The worker looks whether there is something to do, unless another does.
-    pub(crate) fn try_watch(&self) -> Option<MutexGuard<'_, Watch>> {
-        self.watch.try_lock()
-    }
-
-    /// Waits until the worker that looks whether there is something to do has found much, or the epoch ends.
-    pub(crate) fn await_much<R: Wait>(&self, rt: &R) {
-        drop(self.watch.lock(rt));
-    }
-
-    /// Waits until no other worker takes turns alone.
-    pub(crate) fn alone<R: Wait>(&self, rt: &R) -> MutexGuard<'_, Alone> {
-        self.alone.lock(rt)
-    }
-
-    /// A worker takes turns from now on.
-    pub(crate) fn takes_turns(&self) -> OneMore<'_> {
-        OneMore::of(&self.busy)
-    }
-
-    /// Whether at most one worker takes turns.
-    pub(crate) fn is_single(&self) -> bool {
-        self.busy.load(Ordering::SeqCst) < 2
-    }
-
-    /// A worker proposes on a snapshot that is shown to others, from now on until what it proposes is committed.
-    pub(crate) fn proposes(&self) -> OneMore<'_> {
-        OneMore::of(&self.proposing)
-    }
-
-    /// Whether a worker does so.
-    pub(crate) fn is_any_proposing(&self) -> bool {
-        self.proposing.load(Ordering::SeqCst) > 0
     }
 
     /// The committer's thread begins.

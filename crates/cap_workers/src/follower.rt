@@ -1,16 +1,21 @@
 //! A worker that follows the journal: a seat with a cluster of its own (`Follower`), and the turns that are taken on it.
-ghost use Rattle.std.specs.Prelude.{◌≡◌, ◌+◌, ◌%◌, ◌^◌, MatchResult};
+ghost use Rattle.std.specs.Prelude.{◌≡◌, MatchResult};
 ghost use Rattle.cap_shared.specs.Following.{Follows};
-ghost use Rattle.cap_workers.specs.Following.{IsFollowingTurn, IsUnchosen};
-ghost use Rattle.cap_workers.specs.Worker.{Chooses, IsCommitted};
+ghost use Rattle.cap_workers.specs.Committing.{CommitsSome};
+ghost use Rattle.cap_workers.specs.Following.{IsFollowingOffer, IsFollowingTurn, IsUnchosen};
+ghost use Rattle.cap_workers.specs.Worker.{Chooses, IsCommitted, next_turn};
 
-use crate::gate::Gate;
-use crate::worker::{Turn, TurnEnd, Worker, propose_on};
-use bumpalo::Bump;
+use crate::committing::commit_lanes;
+use crate::coordinator::Coordinator;
+use crate::gate::{Gate, Point};
+use crate::worker::{OfferEnd, TurnEnd, Worker, put};
 use cap_base::RESOURCES;
+use cap_commit::Cluster;
+use cap_lanes::Putter;
+use cap_live::propose_live;
 use cap_model::{NoMemory, Proposal};
 use cap_shared::{Naming, Replica, Seat, Shared};
-use cap_sights::copy_in;
+use std::alloc::Global;
 use std::marker::Model;
 use std::sync::Wait;
 
@@ -41,15 +46,18 @@ impl<J: Naming> Model for Follower<J> {
 }
 
 impl<J: Naming> Follower<J> {
-    /// A seat and a replica that has followed nothing but what the seat was noted, as one that was just opened.
-    pub fn new(seat: Seat<J>, replica: Replica<J>) -> Follower<J>
-        requires { Follows replica.log seat.past }
+    /// A seat, and a cluster of this thread's own that is the same as the opening of the epoch.
+    pub fn open(alloc: Global, seat: Seat<J>, cluster: Cluster<RESOURCES>) -> Follower<J>
+        requires { cluster.flat ≡ J.opening }
         ensures { result ≡ seat }
     {
-        Follower { seat, replica }
+        Follower {
+            seat,
+            replica: Replica::open(alloc, cluster),
+        }
     }
 
-    /// The seat, to be given back at the end of the epoch, and the replica, to open the next epoch's with (`Replica::close`).
+    /// The seat, to be given back at the end of the epoch, and the replica, to open the next epoch with (`Replica::close`).
     pub fn into_parts(self) -> (Seat<J>, Replica<J>)
         ensures seat { result.0 ≡ self }
         ensures follows { Follows result.1.log result.0.past }
@@ -58,17 +66,20 @@ impl<J: Naming> Follower<J> {
         (seat, replica)
     }
 
-    /// What is proposed on the replica, once it has caught up. If an allocation fails there is no proposal.
+    /// How many entries of the journal its replica has followed.
+    pub(crate) fn followed(&self) -> usize {
+        self.replica.followed()
+    }
+
+    /// What is proposed in this turn on the replica, once it has caught up. If an allocation fails there is no proposal.
     fn choose<R: Wait, G: Gate>(
         &mut self,
         rt: &R,
         shared: &Shared<J>,
-        arena: &Bump,
         gate: &G,
-        worker: u32,
-        start: u32,
+        turn: Worker,
     ) -> Result<Option<Proposal<RESOURCES>>, NoMemory>
-        ensures { MatchResult result (Chooses J.opening start self.old self.new)
+        ensures { MatchResult result (Chooses J.opening turn.start self.old self.new)
             (λ _. IsUnchosen J.opening self.old self.new) }
     {
         let news = shared
@@ -80,11 +91,10 @@ impl<J: Naming> Follower<J> {
         let Ok(()) = self.replica.catch_up(news) else {
             return Err(NoMemory);
         };
-        let Ok(copied) = copy_in(arena, self.replica.cluster()) else {
-            return Err(NoMemory);
-        };
-        let snapshot = copied.arrange();
-        Ok(propose_on(&snapshot, gate, worker, start))
+        gate.at(turn.number, Point::Copied);
+        let choice = propose_live(self.replica.cluster(), turn.start);
+        gate.at(turn.number, Point::Proposed);
+        Ok(choice)
     }
 
     /// Commits a worker's proposal, once.
@@ -100,36 +110,65 @@ impl<J: Naming> Follower<J> {
     {
         worker.commit(rt, shared, &mut self.seat, gate, proposal)
     }
+
+    /// Commits what waits in the lanes, of this worker and of others, and answers it to them.
+    pub(crate) fn commit_lanes<R: Wait, G: Gate>(
+        &mut self,
+        rt: &R,
+        shared: &Shared<J>,
+        coordinator: &Coordinator,
+        gate: &G,
+    )
+        ensures { CommitsSome J.limit self.old self.new }
+    {
+        if let Some(committed) = commit_lanes(rt, shared, &mut self.seat, coordinator) {
+            coordinator.notify(rt, gate, &committed.outcomes);
+        }
+    }
 }
 
 impl Worker {
     /// Takes a turn, as `turn`, on a replica: under the lock it takes what was entered since the last turn, and notes a copy. Outside of
-    /// the lock the replica makes all of that again, and then is the cluster of the note. If an allocation fails nothing is committed,
-    /// and the replica goes on from where it is in the next turn.
+    /// the lock the replica makes all of that again, and then is the cluster of the note, on which it proposes. If an allocation fails
+    /// nothing is committed, and the replica goes on from where it is in the next turn.
     pub fn follow<J: Naming, R: Wait, G: Gate>(
         &mut self,
         rt: &R,
         shared: &Shared<J>,
         follower: &mut Follower<J>,
-        arena: &mut Bump,
         gate: &G,
-    ) -> Turn
-        ensures start { self.new ≡ record {
-          number = self.old.number;
-          start = (self.old.start + 1) % 2 ^ 32;
-        } }
+    ) -> TurnEnd
+        ensures start { self.new ≡ next_turn self.old }
         ensures turn { IsFollowingTurn J.opening J.limit self.old.start
-            follower.old follower.new result.end }
+            follower.old follower.new result }
     {
-        let start = self.start;
-        self.start = start.wrapping_add(1);
-        let choice = follower.choose(rt, shared, arena, gate, self.number, start);
-        let reset = arena.reset().is_ok();
-        let end = match choice {
+        let turn = self.next();
+        match follower.choose(rt, shared, gate, turn) {
             Ok(Some(proposal)) => follower.commit(rt, shared, self, gate, proposal),
             Ok(None) => TurnEnd::Nothing,
             Err(NoMemory) => TurnEnd::NoMemory,
-        };
-        Turn { end, reset }
+        }
+    }
+
+    /// The same as `follow`, but what it proposes is put into the worker's lane, for the committer, and waits there while the lane is full.
+    /// If an allocation fails nothing is put.
+    pub fn follow_to_lane<J: Naming, R: Wait, G: Gate>(
+        &mut self,
+        rt: &R,
+        shared: &Shared<J>,
+        follower: &mut Follower<J>,
+        putter: &mut Putter,
+        gate: &G,
+    ) -> OfferEnd
+        ensures start { self.new ≡ next_turn self.old }
+        ensures offer { IsFollowingOffer J.opening self.old.start follower.old follower.new
+            putter.old putter.new result }
+    {
+        let turn = self.next();
+        match follower.choose(rt, shared, gate, turn) {
+            Ok(Some(proposal)) => put(rt, putter, proposal),
+            Ok(None) => OfferEnd::Nothing,
+            Err(NoMemory) => OfferEnd::NoMemory,
+        }
     }
 }

@@ -1,9 +1,9 @@
 //! How long a worker rests that has nothing to do, or no memory (`Pause`).
-use crate::scheduling::StopSignal;
+use crate::scheduler::StopSignal;
 use std::sync::Wait;
 use std::time::{Clock, Duration};
 
-/// How long the first pause is of one that rests alone, in microseconds.
+/// How long the first pause is, in microseconds.
 const FIRST: u64 = 1000;
 
 /// The longest pause, in microseconds.
@@ -16,11 +16,8 @@ pub(crate) struct Pause {
 }
 
 impl Pause {
-    /// The first of a worker that rests for so many. The more there are the more often one of them is to look.
-    pub(crate) fn first(workers: u64) -> Pause {
-        Pause {
-            next: FIRST / workers.max(1),
-        }
+    pub(crate) fn first() -> Pause {
+        Pause { next: FIRST }
     }
 
     /// Waits until the signal is raised, or for a while, and twice as long the next time.

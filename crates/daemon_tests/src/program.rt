@@ -218,13 +218,21 @@ fn connect_late<H: Net<Listener = TcpListener, Stream = TcpStream> + Clock>(
     connect(rt, port)
 }
 
-/// Whether a ClusterInfo of the first connection is answered, and not one of the second.
-fn is_first_answered(alloc: Global, first: &TcpStream, second: &TcpStream) -> io::Result<bool> {
+/// Whether a ClusterInfo of the first connection is answered, and not one of the second: once the first was accepted, the system may refuse the
+/// second, or end it before or after it has sent anything.
+fn is_first_answered(
+    alloc: Global,
+    first: &TcpStream,
+    second: &io::Result<TcpStream>,
+) -> io::Result<bool> {
+    let Ok(second) = second else {
+        return are_answered(alloc, first, 1);
+    };
     let mut second = second;
-    send(second, &ASK)?;
+    let is_sent = send(second, &ASK).is_ok();
     let is_first = are_answered(alloc, first, 1)?;
     let mut byte = [0u8; 1];
-    Ok(is_first && !matches!(second.read(&mut byte), Ok(1)))
+    Ok(is_first && !(is_sent && matches!(second.read(&mut byte), Ok(1))))
 }
 
 /// What a client of the daemon does.
@@ -248,8 +256,8 @@ impl Visit {
         match self {
             Visit::Asks(count) => are_answered(alloc, &first, count),
             Visit::Second => {
+                let second = connect(rt, port);
                 let is_elsewhere = TcpStream::connect(rt, ("127.0.0.2", port)).is_ok();
-                let second = connect_late(rt, port)?;
                 Ok(is_first_answered(alloc, &first, &second)? && !is_elsewhere)
             }
         }

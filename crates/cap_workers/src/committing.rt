@@ -1,0 +1,113 @@
+//! What workers put into their lanes is committed by whoever holds the cluster: the committer, or a worker (`commit_all`, `commit_lanes`).
+ghost use Rattle.std.specs.Prelude.{◌≡◌, MatchOption};
+ghost use Rattle.cap_workers.specs.Committing.{CommitsNext, CommitsSome, CommitsTaken};
+
+use crate::coordinator::{BATCH, Coordinator, Outcomes};
+use crate::gate::{CommitOutcome, Gate};
+use cap_lanes::Committer;
+use cap_shared::{Hold, Naming, Seat, Shared};
+use std::sync::Wait;
+
+/// How often the lanes are looked into while the cluster is held: for what each worker has put, and for its end.
+const LOOKS: usize = 2 * BATCH;
+
+/// The committer commits what the workers put, in the order in which it is taken, when it begins and whenever a worker has finished, until all have;
+/// in between, workers that wait for an answer take and commit what waits. What is taken once the journal is full is not made, as is a proposal that
+/// an allocation fails for.
+pub fn commit_all<J: Naming, R: Wait, G: Gate>(
+    rt: &R,
+    shared: &Shared<J>,
+    seat: &mut Seat<J>,
+    coordinator: &Coordinator,
+    gate: &G,
+    committer: Committer,
+)
+    ensures { CommitsSome J.limit seat.old seat.new }
+{
+    coordinator.open_lanes(rt, committer);
+    for _ in rt.forever() {
+        let Some(committed) = commit_lanes(rt, shared, seat, coordinator) else {
+            return;
+        };
+        coordinator.notify(rt, gate, &committed.outcomes);
+        if committed.is_over {
+            return;
+        }
+        if committed.is_short() {
+            coordinator.await_finished(rt);
+        }
+    }
+}
+
+/// What came of the proposals that waited in the lanes.
+#[derive(Clone, Copy)]
+pub(crate) struct Committed {
+    pub outcomes: Outcomes,
+    /// Whether all workers have finished.
+    pub is_over: bool,
+}
+
+impl Committed {
+    /// Whether more could have been committed while the cluster was held.
+    fn is_short(&self) -> bool {
+        self.outcomes.iter().any(|outcome| outcome.is_none())
+    }
+}
+
+/// Holds the cluster, and commits the proposals that wait in the lanes, whose ends lie with the coordinator once the committer has begun.
+pub(crate) fn commit_lanes<J: Naming, R: Wait>(
+    rt: &R,
+    shared: &Shared<J>,
+    seat: &mut Seat<J>,
+    coordinator: &Coordinator,
+) -> Option<Committed>
+    ensures { CommitsSome J.limit seat.old seat.new }
+{
+    let mut held = shared.hold_to_schedule(rt);
+    let mut lanes = coordinator.lanes(rt);
+    let committer = lanes.as_mut()?;
+    let outcomes = commit_waiting(rt, &mut held, seat, committer);
+    Some(Committed {
+        outcomes,
+        is_over: committer.is_over(),
+    })
+}
+
+/// Commits the proposals that wait in the lanes. Each worker has one there at most, and its end.
+fn commit_waiting<J: Naming, R: Wait>(
+    rt: &R,
+    held: &mut Hold<'_, J>,
+    seat: &mut Seat<J>,
+    committer: &mut Committer,
+) -> Outcomes
+    ensures { CommitsTaken J.limit seat.old seat.new committer.old committer.new }
+{
+    let mut outcomes = [None; BATCH];
+    let mut count = 0;
+    for _ in 0..LOOKS {
+        if count >= BATCH {
+            break;
+        }
+        if let Some(outcome) = commit_next(rt, held, seat, committer) {
+            outcomes[count] = Some(outcome);
+            count += 1;
+        }
+    }
+    outcomes
+}
+
+/// Commits the proposal that comes next in the lanes, if one has come: the number of the worker that put it, and what came of it.
+fn commit_next<J: Naming, R: Wait>(
+    rt: &R,
+    held: &mut Hold<'_, J>,
+    seat: &mut Seat<J>,
+    committer: &mut Committer,
+) -> Option<(u32, CommitOutcome)>
+    ensures { MatchOption result
+        ((seat.new ≡ seat.old) × (committer.new.taken ≡ committer.old.taken))
+        (CommitsNext J.limit seat.old seat.new committer.old committer.new) }
+{
+    let (worker, proposal) = committer.try_take(rt)?;
+    let answer = held.commit(seat, proposal);
+    Some((worker, CommitOutcome::of(&answer)))
+}

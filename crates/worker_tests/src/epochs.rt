@@ -1,0 +1,126 @@
+//! An epoch of two seats: a worker has one, and the test makes calls with the other.
+ghost use Rattle.std.specs.Prelude.{◌≡◌, ◌≤◌};
+
+use cap_base::RESOURCES;
+use cap_commit::Cluster;
+use cap_config::read_config;
+use cap_messages::read_request;
+use cap_model::ReplyWith;
+use cap_shared::{Blank, Naming, Seat, Shared};
+use cap_testing::{Call, TWO_QUEUES, WantedContainers, frame};
+use cap_workers::{IdleWorker, Scheduler, Worker};
+use std::alloc::Global;
+use std::marker::Brand;
+use std::sync::Wait;
+use std::time::Clock;
+
+/// How many entries the journal has at most.
+pub const LIMIT: usize = 20;
+
+/// Three containers of (1024, 1), anywhere.
+const THREE: WantedContainers = WantedContainers {
+    priority: 1,
+    request: 0,
+    count: 3,
+    resource: [1024, 1, 0],
+    place: b"*",
+};
+
+/// Two nodes, and an application that asks for three containers.
+pub static THREE_ASKED: [Call; 5] = [
+    Call::Submit(b"root.a", b"u1"),
+    Call::RegisterMaster(1),
+    Call::Allocate(1, 0, &[THREE], &[]),
+    Call::RegisterNode(b"n1", b"/r1", [8192, 8, 0]),
+    Call::RegisterNode(b"n2", b"/r1", [8192, 8, 0]),
+];
+
+/// It asks for one more, of another key.
+pub static ONE_MORE: [Call; 1] = [Call::Allocate(
+    1,
+    1,
+    &[WantedContainers {
+        request: 1,
+        count: 1,
+        ..THREE
+    }],
+    &[],
+)];
+
+/// What a test does in an epoch.
+pub trait Play {
+    /// What it sees.
+    type Seen;
+
+    /// With worker 0, and a seat to make calls with. `None` if something failed that must not.
+    fn play<J: Naming, H: Wait + Clock>(
+        &self,
+        rt: &H,
+        alloc: Global,
+        shared: &Shared<J>,
+        caller: &mut Seat<J>,
+        own: Scheduler<J>,
+    ) -> Option<Self::Seen>;
+}
+
+/// Makes calls, none of which is refused.
+pub fn call_all<J: Naming, H: Wait>(
+    rt: &H,
+    alloc: Global,
+    shared: &Shared<J>,
+    seat: &mut Seat<J>,
+    calls: &[Call<'_>],
+) -> Option<()> {
+    for call in calls {
+        let bytes = frame(alloc, 2, 1, call).ok()?;
+        let (_, request) = read_request(alloc, bytes.get(4..)?).ok()?;
+        match shared.call(rt, seat, request) {
+            Ok(ReplyWith::Refused(_)) | Err(_) => return None,
+            Ok(_) => {}
+        }
+    }
+    Some(())
+}
+
+/// Plays in an epoch over a cluster of two queues.
+pub fn play_in<H: Wait + Clock, P: Play>(rt: &H, alloc: Global, play: &P) -> Option<P::Seen> {
+    let config = read_config(alloc, TWO_QUEUES).ok()?;
+    let Ok(cluster) = Cluster::from_config(alloc, &config) else {
+        return None;
+    };
+    let Ok(same) = Cluster::from_config(alloc, &config) else {
+        return None;
+    };
+    let Ok(blank) = Blank::new(alloc, 2) else {
+        return None;
+    };
+    let worker = IdleWorker {
+        worker: Worker::new(0),
+        cluster: same,
+    };
+    named_epoch::<Brand, H, P>(rt, alloc, blank, cluster, worker, play)
+}
+
+/// The same under a name.
+fn named_epoch<J: Naming, H: Wait + Clock, P: Play>(
+    rt: &H,
+    alloc: Global,
+    blank: Blank,
+    cluster: Cluster<RESOURCES>,
+    worker: IdleWorker,
+    play: &P,
+) -> Option<P::Seen>
+    requires named { blank.0 ≡ J.table }
+    requires opening { cluster.flat ≡ J.opening }
+    requires same { worker.cluster.flat ≡ J.opening }
+    requires limit { 20 ≡ J.limit }
+    requires seats { blank.1 ≡ J.seats }
+    requires few { 2 ≡ J.seats }
+{
+    let Ok((shared, mut seats)) = Shared::<J>::open(alloc, blank, cluster, LIMIT) else {
+        return None;
+    };
+    let mut caller = seats.pop()?;
+    let own = worker.begin(alloc, seats.pop()?);
+    play.play(rt, alloc, &shared, &mut caller, own)
+}

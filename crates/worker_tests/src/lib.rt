@@ -1,0 +1,9 @@
+//! Tests of workers that follow the journal on clusters of their own.
+#![tactic(auto)]
+
+#[cfg(test)]
+mod epochs;
+#[cfg(test)]
+mod following;
+#[cfg(test)]
+mod resting;
