@@ -1,7 +1,6 @@
 -- Turns and offers, one after the other.
 use Rattle.cap_workers.proofs.Prelude.{◌≡◌, ℕ, sym, subst, resources, Flat, Sitting}
 use Rattle.cap_lanes.specs.Sides.{WorkerSide}
-use Rattle.cap_workers.specs.Committing.{CommitsSome}
 use Rattle.cap_workers.specs.Following.{IsFollowingOffer, IsFollowingTurn}
 use Rattle.cap_workers.specs.Scheduling.{Offers, offers_commits, offers_none, offers_one, Turns, turns_one}
 use Rattle.cap_workers.specs.Worker.{next_turn}

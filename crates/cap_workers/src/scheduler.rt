@@ -8,11 +8,7 @@
 //! | waiting for an answer | who holds the cluster has committed that | proposing, or resting where memory is wanting |
 //! | resting | the journal has grown and its rest is over | proposing |
 //! | any of these | the journal is full, or the signal is raised | leaving |
-ghost use Rattle.std.specs.Prelude.{◌≡◌};
-ghost use Rattle.cap_workers.specs.Committing.{CommitsSome};
-ghost use Rattle.cap_workers.specs.Following.{IsFollowingOffer, IsFollowingTurn};
 ghost use Rattle.cap_workers.specs.Scheduling.{Offers, Turns};
-ghost use Rattle.cap_workers.specs.Worker.{next_turn};
 
 use crate::committing::commit_lanes;
 use crate::coordinator::Coordinator;
