@@ -49,7 +49,7 @@ impl StopSignal for Rests {
             pauses.lengths[place] = pause.as_micros();
             pauses.count = place + 1;
         }
-        if place + 1 >= PAUSES {
+        if place >= PAUSES - 1 {
             self.over.store(1, Ordering::SeqCst);
         }
     }
