@@ -1,10 +1,13 @@
 use denote.Param.Send.{sendable}
 use Rattle.std.proofs.Crossing.{crosses}
+use Rattle.cap_lanes.proofs.committer.Committer.TheSendSync as committer
+use Rattle.cap_lanes.proofs.putter.Putter.TheSendSync as putter
 use Rattle.cap_shared.proofs.Crossing.{Shared-sync}
 use Rattle.cap_shared.proofs.seat.Seat.TheSendSync as seat
 use Rattle.cap_workers.proofs.coordinator.Coordinator.TheSendSync as coordinator
+use Rattle.cap_server.proofs.Crossing.{Scheduler-send}
+use Rattle.cap_server.proofs.connection.ClientConnection.TheSendSync as connection
 use Rattle.cap_server.proofs.state.SharedState.TheSendSync as state
-use Rattle.cap_server.proofs.task.Task.TheSendSync as task
 use Rattle.cap_server.proofs.threads.begin_thread.Goals as goal
 
 pub spawn-requires-send-F : goal.spawn-requires-send-F
@@ -12,4 +15,7 @@ spawn-requires-send-F g c κs within =
     let j = c.type_bounds.send-J in
     let h = c.type_bounds.sync-H in
     let w = c.type_bounds.sync-G in
-    search (Shared-sync, task.the_send, seat.the_send, state.the_sync, coordinator.the_sync, crosses, sendable) depth 60
+    search (Shared-sync, Scheduler-send, committer.the_send, putter.the_send, seat.the_send, state.the_sync, coordinator.the_sync, crosses, sendable) depth 60
+
+pub spawn-requires-send-T : goal.spawn-requires-send-T
+spawn-requires-send-T g c = let j = c.type_bounds.send-J in search (Scheduler-send, connection.the_send, seat.the_send, crosses, sendable) depth 60
