@@ -8,7 +8,7 @@ ghost use Rattle.cap_shared.specs.Journal.{events_in};
 ghost use Rattle.cap_archive.specs.Archive.{Passes, settings_lines};
 ghost use Rattle.cap_archive.specs.declared.archive.ArchiveFault.TheVariants.{NoMemory as out_of_memory};
 
-use cap_journal::{LineFault, put_closed, put_epoch, put_event, put_property};
+use cap_journal::{LineFault, Out, put_closed, put_epoch, put_event, put_property};
 use cap_session::{Counted, write_out};
 use cap_shared::Entry;
 use cap_text::split_line;
@@ -72,9 +72,10 @@ pub fn write_epoch<W: Write>(
         (W.contents (inner_of writer.new)) (epoch_text number (events_in journal.now))) }
     ensures counts { OnOk result (CanCount (state_of writer.new)) }
 {
+    let mut message = Out::new(alloc);
     let mut lines = first_line(alloc, number)?;
     for entry in journal {
-        put_entry(alloc, &mut lines, entry)?;
+        put_entry(alloc, &mut message, &mut lines, entry)?;
         pass_on(&mut lines, writer)?;
     }
     put_last(&mut lines, journal.len() as u64)?;
@@ -101,11 +102,16 @@ fn put_last(lines: &mut Vec<u8>, entries: u64) -> Result<(), ArchiveFault>
 }
 
 /// Puts the line of an entry, with its end.
-fn put_entry(alloc: Global, lines: &mut Vec<u8>, entry: &Entry) -> Result<(), ArchiveFault>
+fn put_entry(
+    alloc: Global,
+    message: &mut Out,
+    lines: &mut Vec<u8>,
+    entry: &Entry,
+) -> Result<(), ArchiveFault>
     ensures { OnOk result (lines.new.items
         ≡ lines.old.items ++ ended (event_words entry.now.event)) }
 {
-    match put_event(alloc, lines, &entry.event) {
+    match put_event(alloc, message, lines, &entry.event) {
         Ok(()) => {}
         Err(LineFault::NoMemory) => return Err(ArchiveFault::NoMemory),
         Err(LineFault::NoSpelling) => return Err(ArchiveFault::NoSpelling),

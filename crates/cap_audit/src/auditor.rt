@@ -9,6 +9,7 @@ use crate::stop::{Stop, Why};
 use cap_base::RESOURCES;
 use cap_commit::Cluster;
 use cap_config::{ConfigFaultKind, read_config};
+use cap_journal::Out;
 use cap_model::NoMemory;
 use std::alloc::Global;
 
@@ -20,6 +21,8 @@ pub(crate) struct Auditor {
     place: Place,
     counts: Counts,
     lines: u64,
+    /// What messages are written into, with room for the longest once one was.
+    message: Out,
 }
 
 impl Drop for Auditor {
@@ -31,6 +34,7 @@ impl Drop for Auditor {
             place: _,
             counts: _,
             lines: _,
+            message: _,
         } = self;
     }
 }
@@ -47,6 +51,7 @@ impl Auditor {
             place: Place::start(),
             counts: Counts::new(),
             lines: 0,
+            message: Out::new(alloc),
         }
     }
 
@@ -107,7 +112,13 @@ impl Auditor {
         let Some(cluster) = &mut self.cluster else {
             unreachable!()
         };
-        follow(self.alloc, cluster, &mut self.place, line)
+        follow(
+            self.alloc,
+            &mut self.message,
+            cluster,
+            &mut self.place,
+            line,
+        )
     }
 
     /// What is known at the end of the file: it does not end in an epoch.

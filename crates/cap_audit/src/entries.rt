@@ -7,7 +7,7 @@ use crate::reading::{call_in, numbers_in, proposal_of};
 use crate::stop::{Stop, Why, stop_of};
 use cap_base::RESOURCES;
 use cap_commit::Cluster;
-use cap_journal::{put_call, put_closed, put_epoch, put_event};
+use cap_journal::{Out, put_call, put_closed, put_epoch, put_event};
 use cap_messages::dispatch;
 use cap_model::{Event, NoMemory, Proposal, ProposalKind, Refusal, ReplyWith, Verdict};
 use std::alloc::Global;
@@ -15,6 +15,7 @@ use std::alloc::Global;
 /// Plays one line that is no property line.
 pub(crate) fn follow(
     alloc: Global,
+    message: &mut Out,
     cluster: &mut Cluster<RESOURCES>,
     place: &mut Place,
     line: &[u8],
@@ -32,7 +33,7 @@ pub(crate) fn follow(
         Ok(after) => after,
         Err(stop) => return Err(stop),
     };
-    match enter(alloc, cluster, line) {
+    match enter(alloc, message, cluster, line) {
         Ok(()) => {
             *place = after;
             Ok(())
@@ -101,17 +102,22 @@ fn close_epoch(alloc: Global, place: &mut Place, line: &[u8]) -> Result<(), Stop
 }
 
 /// Makes the event of the line of an entry.
-fn enter(alloc: Global, cluster: &mut Cluster<RESOURCES>, line: &[u8]) -> Result<(), Stop>
+fn enter(
+    alloc: Global,
+    message: &mut Out,
+    cluster: &mut Cluster<RESOURCES>,
+    line: &[u8],
+) -> Result<(), Stop>
     ensures { OnOk result (Makes line.now cluster.old.flat cluster.new.flat) }
 {
     if let Some(rest) = line.strip_prefix(b"call ") {
-        return call(alloc, cluster, line, rest);
+        return call(alloc, message, cluster, line, rest);
     }
     if let Some(rest) = line.strip_prefix(b"grant ") {
-        return grant(alloc, cluster, line, rest);
+        return grant(alloc, message, cluster, line, rest);
     }
     if let Some(rest) = line.strip_prefix(b"reserve ") {
-        return reserve(alloc, cluster, line, rest);
+        return reserve(alloc, message, cluster, line, rest);
     }
     Err(Stop::False(Why::NoLine))
 }
@@ -119,6 +125,7 @@ fn enter(alloc: Global, cluster: &mut Cluster<RESOURCES>, line: &[u8]) -> Result
 /// Makes the call of a line, of which the request follows its first word. Its reply is the cluster's.
 fn call(
     alloc: Global,
+    message: &mut Out,
     cluster: &mut Cluster<RESOURCES>,
     line: &[u8],
     rest: &[u8],
@@ -134,7 +141,7 @@ fn call(
         return Err(Stop::NoMemory);
     }
     let mut words = Vec::new(alloc);
-    match put_call(alloc, &mut words, by, &request, &cluster.view(&given)) {
+    match put_call(message, &mut words, by, &request, &cluster.view(&given)) {
         Ok(()) => {}
         Err(fault) => return Err(stop_of(fault)),
     }
@@ -147,6 +154,7 @@ fn call(
 /// Makes the grant of a line, of which its numbers follow the first word.
 fn grant(
     alloc: Global,
+    message: &mut Out,
     cluster: &mut Cluster<RESOURCES>,
     line: &[u8],
     rest: &[u8],
@@ -161,12 +169,13 @@ fn grant(
     let Some(proposal) = proposal_of(ProposalKind::Grant, numbers) else {
         return Err(Stop::False(Why::NoLine));
     };
-    commit(alloc, cluster, line, proposal, number)
+    commit(alloc, message, cluster, line, proposal, number)
 }
 
 /// Makes the reservation of a line, of which its numbers follow the first word.
 fn reserve(
     alloc: Global,
+    message: &mut Out,
     cluster: &mut Cluster<RESOURCES>,
     line: &[u8],
     rest: &[u8],
@@ -179,13 +188,14 @@ fn reserve(
     let Some(proposal) = proposal_of(ProposalKind::Reserve, numbers) else {
         return Err(Stop::False(Why::NoLine));
     };
-    commit(alloc, cluster, line, proposal, 0)
+    commit(alloc, message, cluster, line, proposal, 0)
 }
 
 /// Makes the proposal of a line, where it is admissible, and what comes of it is what the line says. A grant is to be of the container of this
 /// number.
 fn commit(
     alloc: Global,
+    message: &mut Out,
     cluster: &mut Cluster<RESOURCES>,
     line: &[u8],
     proposal: Proposal<RESOURCES>,
@@ -199,7 +209,7 @@ fn commit(
         Err(NoMemory) => return Err(Stop::NoMemory),
     };
     let mut words = Vec::new(alloc);
-    match put_event(alloc, &mut words, &event) {
+    match put_event(alloc, message, &mut words, &event) {
         Ok(()) => {}
         Err(fault) => return Err(stop_of(fault)),
     }

@@ -10,3 +10,4 @@ pub use crate::fault::LineFault;
 pub use crate::lines::{
     HEAD, put_call, put_closed, put_epoch, put_event, put_grant, put_property, put_reserve,
 };
+pub use cap_grammar::Out;

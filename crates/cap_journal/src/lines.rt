@@ -42,9 +42,9 @@ pub fn put_closed(line: &mut Vec<u8>, entries: u64) -> Result<(), AllocError>
 }
 
 /// Puts the line of a call and its reply, without its end. `NoSpelling` where the request has no spelling in version 2, or the reply
-/// is none to it. Where it fails a part of the line may have been put.
+/// is none to it. Where it fails a part of the line may have been put. Both are written into `message` first, whose room stays.
 pub fn put_call(
-    alloc: Global,
+    message: &mut Out,
     line: &mut Vec<u8>,
     by: u32,
     request: &Request<RESOURCES>,
@@ -58,12 +58,14 @@ pub fn put_call(
         return Err(LineFault::NoSpelling);
     }
     put_numbers(line, b"call", &[u64::from(by)])?;
-    let mut message = Out::with_capacity(alloc, REQUEST_ROOM)?;
-    write_request(HEAD, request, &mut message);
-    put_message(line, &message)?;
-    let mut message = Out::with_capacity(alloc, REPLY_ROOM)?;
-    write_reply(HEAD, kind, reply, &mut message);
-    put_message(line, &message)?;
+    message.clear();
+    message.reserve(REQUEST_ROOM)?;
+    write_request(HEAD, request, message);
+    put_message(line, message)?;
+    message.clear();
+    message.reserve(REPLY_ROOM)?;
+    write_reply(HEAD, kind, reply, message);
+    put_message(line, message)?;
     Ok(())
 }
 
@@ -122,9 +124,11 @@ pub fn put_reserve(
     )
 }
 
-/// Puts the line of an event, without its end. `NoSpelling` as of `put_call`. Where it fails a part of the line may have been put.
+/// Puts the line of an event, without its end. `NoSpelling` and `message` as of `put_call`. Where it fails a part of the line may have
+/// been put.
 pub fn put_event(
     alloc: Global,
+    message: &mut Out,
     line: &mut Vec<u8>,
     event: &Event<RESOURCES>,
 ) -> Result<(), LineFault>
@@ -135,7 +139,7 @@ pub fn put_event(
             let Ok(request) = request.request(alloc) else {
                 return Err(LineFault::NoMemory);
             };
-            put_call(alloc, line, *by, &request, &reply.view())
+            put_call(message, line, *by, &request, &reply.view())
         }
         Event::Grant { container } => Ok(put_grant(line, container)?),
         Event::Reserve { reservation } => Ok(put_reserve(line, reservation)?),

@@ -40,9 +40,10 @@ impl Counts {
 }
 
 impl Stats {
-    /// Told each so many seconds, first so many after now.
-    pub fn new<H: Clock>(rt: &H, seconds: u32) -> Stats {
-        Stats {
+    /// Told each so many seconds, first so many after now, if they are to be told.
+    pub fn each<H: Clock>(rt: &H, seconds: Option<u32>) -> Option<Stats> {
+        let seconds = seconds?;
+        Some(Stats {
             every: Duration::from_secs(u64::from(seconds)),
             told: Instant::now(rt).ok(),
             counts: Counts {
@@ -51,7 +52,7 @@ impl Stats {
                 reservations: 0,
                 epochs: 0,
             },
-        }
+        })
     }
 
     /// An epoch was closed that had this journal.

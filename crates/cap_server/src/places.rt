@@ -79,9 +79,6 @@ impl<J: Naming> Places<J> {
 
     /// Whether the connection that was served with the seat of this number has ended since this was last asked.
     pub(crate) fn has_ended(&self, seat: u32) -> bool {
-        match self.of(seat) {
-            Some(place) => place.has_ended(),
-            None => false,
-        }
+        self.of(seat).is_some_and(|place| place.has_ended())
     }
 }

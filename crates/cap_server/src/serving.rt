@@ -139,7 +139,8 @@ pub fn serve_on<H: Net + Threads + Wait + Clock + Eprint + Input + Sync, G: Gate
     let Ok(carried) = begin(alloc, config, sizes, acceptor) else {
         return no_memory(writer);
     };
-    let state = SharedState::new(gate, sizes, signal, waker, stats_of(rt, sizes), audit);
+    let stats = Stats::each(rt, sizes.stats);
+    let state = SharedState::new(gate, sizes, signal, waker, stats, audit);
     match announce(alloc, port, writer) {
         Ok(()) => serve_all(rt, alloc, &state, carried, writer),
         Err(status) => status,
@@ -300,14 +301,6 @@ fn workers_of(
         };
     }
     Ok(workers)
-}
-
-/// What is told each so often, if it is.
-fn stats_of<H: Clock>(rt: &H, sizes: &Sizes) -> Option<Stats> {
-    match sizes.stats {
-        Some(seconds) => Some(Stats::new(rt, seconds)),
-        None => None,
-    }
 }
 
 /// Lets the memory that an epoch frees be kept for the next. glibc's malloc takes a block above a threshold anew from the system, and gives

@@ -161,7 +161,11 @@ impl<
         place.give(self.rt, connection, seat);
         match begin_serving(self.scope, self.rt, self.shared, self.state, place) {
             Some(thread) => {
-                running.add(self.rt, signal, Some(SeatedThread::new(Some(number), thread)))
+                running.add(
+                    self.rt,
+                    signal,
+                    Some(SeatedThread::new(Some(number), thread)),
+                )
             }
             None => self.take_back(running, place),
         }
