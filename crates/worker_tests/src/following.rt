@@ -132,7 +132,14 @@ impl Play for ThreeOffers {
             if place == 1 {
                 call_all(rt, alloc, shared, caller, &THREE_ASKED)?;
             }
-            seen[place] = offered(rt, shared, &mut worker, &mut follower, putter, &mut committer);
+            seen[place] = offered(
+                rt,
+                shared,
+                &mut worker,
+                &mut follower,
+                putter,
+                &mut committer,
+            );
         }
         Some(seen)
     }

@@ -5,4 +5,4 @@ use Rattle.cap_server.proofs.serving.workers_of.Given as goal
 
 -- those so far
 abbrev pub invariant-loop-number : goal.invariant-loop-number
-invariant-loop-number g l = AllAre (opened_cluster {K = resources} l.fn.config) l.workers.items
+invariant-loop-number l = AllAre (opened_cluster {K = resources} l.fn.config) l.workers.items
