@@ -5,6 +5,7 @@
 //!     load info PORT .. REQUESTS QUIET              the same beside QUIET connections that say nothing
 //!     load cluster PORT NODES APPS QUEUES SECONDS   a cluster in which containers are asked for, granted and ended all the time, over 9 connections
 //!     load busy PORT NODES MASTERS QUEUES SECONDS   node managers, masters and an operator, each on a connection of its own, that call as fast as they are answered
+//!     load fill PORT NODES APPS QUEUES CONTAINERS   an empty cluster, in which all applications ask for so many containers together before all nodes register at once
 //!     load quiet PORT CONNECTIONS NODES SECONDS PID connections to the process PID that say nothing, once the first has registered the nodes
 //!     load stopped PORT CONNECTIONS PID             calls on each connection before and after the process PID is stopped and continues
 //!
@@ -78,6 +79,9 @@ fn main() -> Result<()> {
         }
         (Some("busy"), &[port, nodes, masters, queues, seconds]) => {
             busy(port, nodes, masters, queues, seconds as u64)?
+        }
+        (Some("fill"), &[port, nodes, apps, queues, containers]) => {
+            fill(port, nodes, apps, queues, containers)?
         }
         (Some("quiet"), &[port, connections, nodes, seconds, pid]) => {
             quiet(port, connections, nodes, seconds as u64, pid)?
@@ -353,10 +357,7 @@ impl Lane {
     }
 
     fn add_node(&mut self, host: &str) -> Result<()> {
-        let mut body = Vec::new();
-        put_text(&mut body, host);
-        put_text(&mut body, "/r1");
-        put_resource(&mut body, 65536, 64);
+        let body = node_body(host, 64);
         let number = self.connection.call(REGISTER_NODE, &body)?.number(8)?;
         self.callers.push(Caller {
             number,
@@ -377,6 +378,81 @@ impl Lane {
             response: 0,
         });
         Ok(())
+    }
+}
+
+/// A node registers on which so many containers of (1024, 1) fit.
+fn node_body(host: &str, places: u64) -> Vec<u8> {
+    let mut body = Vec::new();
+    put_text(&mut body, host);
+    put_text(&mut body, "/r1");
+    put_resource(&mut body, places * 1024, places);
+    body
+}
+
+/// How often those who wait for a cluster that fills look at it.
+const LOOK: Duration = Duration::from_millis(2);
+/// How many asks each application has in it.
+const ASKS: u32 = 8;
+
+/// Lets an empty cluster fill, and prints how fast: from the first node on, which registers with all others at once, until so many containers live.
+fn fill(port: usize, nodes: usize, apps: usize, queues: usize, containers: usize) -> Result<()> {
+    let mut measured = Connection::open(port)?;
+    let mut masters = Lane::open(port)?;
+    let count = (containers.div_ceil(apps) as u32).div_ceil(ASKS);
+    for index in 0..apps {
+        masters.add_app(&format!("root.q{}", index % queues + 1))?;
+    }
+    for app in &masters.callers {
+        let mut body = app.number.to_be_bytes().to_vec();
+        body.extend_from_slice(&app.response.to_be_bytes());
+        body.extend_from_slice(&(ASKS as u16).to_be_bytes());
+        for priority in 1..=ASKS {
+            body.extend_from_slice(&priority.to_be_bytes());
+            body.extend_from_slice(&1u64.to_be_bytes());
+            body.extend_from_slice(&count.to_be_bytes());
+            put_resource(&mut body, 1024, 1);
+            put_text(&mut body, "*");
+        }
+        body.extend_from_slice(&0u16.to_be_bytes());
+        masters.connection.call(ALLOCATE, &body)?;
+    }
+    let places = containers.div_ceil(nodes) as u64;
+    for index in 0..nodes {
+        measured.put(REGISTER_NODE, &node_body(&format!("n{index}"), places));
+    }
+    let begin = Instant::now();
+    measured.send()?;
+    for _ in 0..nodes {
+        measured.read()?;
+    }
+    let registered = begin.elapsed();
+    let live = await_live(&mut measured, containers as u64)?;
+    println!(
+        "{:.0} containers a second, of {live}, the nodes registered after {} ms",
+        live as f64 / begin.elapsed().as_secs_f64(),
+        registered.as_millis()
+    );
+    Ok(())
+}
+
+/// Looks until so many containers live, and fails where there are no more after 10 seconds.
+fn await_live(measured: &mut Connection, wanted: u64) -> Result<u64> {
+    let (mut seen, mut since) = (0, Instant::now());
+    loop {
+        let mut reply = measured.call(CLUSTER_INFO, &[])?;
+        reply.skip(4 + 4);
+        let live = reply.number(4)?;
+        if live >= wanted {
+            return Ok(live);
+        }
+        if live > seen {
+            (seen, since) = (live, Instant::now());
+        }
+        if since.elapsed() > Duration::from_secs(10) {
+            return Err(format!("{live} containers live, and no more").into());
+        }
+        thread::sleep(LOOK);
     }
 }
 

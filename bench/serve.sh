@@ -185,6 +185,20 @@ busy() {
   awk -v r="$rejected" 'BEGIN { exit r > 0.2 }' || { echo "that is more than 0.2" >&2; broken=1; }
 }
 
+# run_fill WORKERS NODES APPS: how fast 60,000 containers are granted in an empty cluster
+run_fill() {
+  port=$("$work/load" port)
+  serve "$1" 2 0
+  load fill "$port" "$2" "$3" 64 60000
+}
+for size in '64 64' '512 256' '4096 2048' '4096 10000'; do
+  read -r nodes apps <<<"$size"
+  for workers in 1 2; do
+    undisturbed run_fill "$workers" "$nodes" "$apps"
+    echo "fill, nodes=$nodes applications=$apps workers=$workers: $(cat "$work/loaded"); $(tail -n 1 "$work/messages")"
+  done
+done
+
 awk 'BEGIN {
   print "yarn.scheduler.capacity.root.queues=q1,q2,q3,q4,q5"
   for (i = 1; i <= 5; i++) {
