@@ -3,17 +3,18 @@
 # how many frames a second `engine_runs` writes back as they came, the median of five runs of each, in turn, with epochs of 4,096 entries and of 131,072, and
 # the number and the longest time of changes of epochs in the last run, and those of a daemon with 127 connections that say nothing and one that calls; fails
 # where the daemon makes less than half of what engine_runs makes, where it makes with 4,096 less than 0.8 of what it makes with 131,072, or where a change
-# takes 5 ms or more. Then a cluster of 512 nodes, 64 leaf queues and 256 applications, in which masters ask and nodes end all that runs on them every 100 ms:
-# grants a second by 1, 2 and 4 workers, without a committer (lanes=0) and with lanes of so many places to one, how long a ClusterInfo takes meanwhile, and
-# for how much of the time the cluster is held by the copies of 1 worker (several share them); fails where its 99th percentile with 4 workers and 64 places is
-# above 60 ms, or where more workers make fewer grants than 1. Then a busy cluster: 60 node managers that heartbeat, 60 masters that ask, release and ask
-# again, in queues at their maxima, and an operator, each as fast as it is answered, and all answers are held against each other: grants a second and how many
-# proposals are rejected for each that is made, by 1, 2 and 4 workers, directly and through 64 places, the run in the middle of five, in turn; fails where 4
-# workers make fewer than 5,000 grants a second or fewer than 1 worker, where they make less than 0.9 of that through lanes, or where more than 0.2 proposals
-# are rejected for each that is made. Last how much of a core the daemon takes while nobody says anything, with 512 nodes: fails where one worker with 16
-# connections takes 1 % or more, or 8 workers with 128 take 5 % or more. And whether all connections are still answered after the daemon was stopped and
-# continued. A number as the argument is for how many seconds each cluster is measured, 10 without. Figures depend on the machine, and on what else runs
-# there: a run in which others on the host took more than 1 % of the processors' time is made again, up to five times in all. Needs rustc for the load.
+# takes 5 ms or more. Then a cluster of 512 nodes, 64 leaf queues and 256 applications, in which masters ask and nodes end all that runs on them every 100
+# ms: grants a second by 1, 2 and 4 workers, without a committer (lanes=0) and with lanes of so many places to one, and how long a ClusterInfo takes
+# meanwhile; fails where its 99th percentile with 4 workers and 64 places is above 60 ms, or where more workers make fewer grants than 1. Then an empty
+# cluster that fills once all nodes register, in four sizes: containers a second by 1 and 2 workers. Then a busy cluster: 60 node managers that heartbeat, 60
+# masters that ask, release and ask again, in queues at their maxima, and an operator, each as fast as it is answered, and all answers are held against each
+# other: grants a second and how many proposals are rejected for each that is made, by 1, 2 and 4 workers, directly and through 64 places, the run in the
+# middle of five, in turn; fails where 4 workers make fewer than 5,000 grants a second or fewer than 1 worker, where they make less than 0.9 of that through
+# lanes, or where more than 0.2 proposals are rejected for each that is made. Last how much of a core the daemon takes while nobody says anything, with 512
+# nodes: fails where one worker with 16 connections takes 1 % or more, or 8 workers with 128 take 5 % or more. And whether all connections are still answered
+# after the daemon was stopped and continued. A number as the argument is for how many seconds each cluster is measured, 10 without. Figures depend on the
+# machine, and on what else runs there: a run in which others on the host took more than 1 % of the processors' time is made again, up to five times in all.
+# Needs rustc for the load.
 . "$(dirname "${BASH_SOURCE[0]}")/common.sh"
 seconds=${1:-10}
 requests=1920000
@@ -122,22 +123,6 @@ awk 'BEGIN {
     print "yarn.scheduler.capacity.root.q" i ".user-limit-factor=16"
   }
 }' >"$work/config"
-# runs engine_runs on the numbers
-copy() { echo 512 64 256 512 0 "$@" | "$top/crates/engine_runs/out/engine_runs" >"$work/output"; }
-
-# how long a copy of the parts of such a cluster takes by itself, in nanoseconds
-best_of_three copy 0
-none=$best
-best_of_three copy 20000
-copy_time=$(((best - none) * 50))
-echo "a copy of the cluster takes $copy_time ns by itself"
-
-# share: for how much of the time the cluster is held by the copies of the turns of 1 worker that made a proposal, if each takes so long
-share() {
-  sed -n 's/^proposals: \([0-9]*\) made, \([0-9]*\) rejected$/\1 \2/p' "$work/messages" |
-    awk -v ns="$copy_time" -v s="$seconds" '{ printf "%.0f %% of the time in copies that led to a proposal", ($1 + $2) * ns / s / 1e7 }'
-}
-
 # run_cluster WORKERS LANES: how such a cluster is scheduled
 run_cluster() {
   port=$("$work/load" port)
@@ -155,7 +140,6 @@ for run in '1 0' '2 0' '4 0' '1 64' '2 64' '4 8' '4 64'; do
   [ "$grants" -ge "$one" ] || { echo "that is fewer than those of 1 worker" >&2; broken=1; }
   echo "workers=$workers lanes=$lanes: $(figure 'grants a second, by') grants a second, by the containers that ended and live"
   echo "workers=$workers lanes=$lanes: $slowest us at the 99th percentile of a ClusterInfo"
-  [ "$workers" -ne 1 ] || echo "workers=$workers lanes=$lanes: the cluster is held $(share)"
   echo "workers=$workers lanes=$lanes: $(tail -n 1 "$work/said")"
   echo "workers=$workers lanes=$lanes: $(tail -n 1 "$work/messages")"
 done
