@@ -13,7 +13,7 @@ spawn_scoped-requires-send-F g c κs within =
     let j = c.type_bounds.send-J in
     let h = c.type_bounds.sync-H in
     let w = c.type_bounds.sync-G in
-    search (Shared-sync, connection.the_send, seat.the_send, place.the_sync, state.the_sync, crosses, sendable) depth 60
+    search (Shared-sync, place.the_sync, state.the_sync, crosses, sendable) depth 60
 
 pub spawn_scoped-requires-send-T : goal.spawn_scoped-requires-send-T
-spawn_scoped-requires-send-T g c = let j = c.type_bounds.send-J in search (Scheduler-send, connection.the_send, seat.the_send, crosses, sendable) depth 60
+spawn_scoped-requires-send-T g c κs within = let j = c.type_bounds.send-J in search (Scheduler-send, connection.the_send, seat.the_send, crosses, sendable) depth 60

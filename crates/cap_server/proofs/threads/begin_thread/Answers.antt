@@ -18,4 +18,4 @@ spawn-requires-send-F g c κs within =
     search (Shared-sync, Scheduler-send, committer.the_send, putter.the_send, seat.the_send, state.the_sync, coordinator.the_sync, crosses, sendable) depth 60
 
 pub spawn-requires-send-T : goal.spawn-requires-send-T
-spawn-requires-send-T g c = let j = c.type_bounds.send-J in search (Scheduler-send, connection.the_send, seat.the_send, crosses, sendable) depth 60
+spawn-requires-send-T g c κs within = let j = c.type_bounds.send-J in search (Scheduler-send, connection.the_send, seat.the_send, crosses, sendable) depth 60
