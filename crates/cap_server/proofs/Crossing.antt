@@ -1,14 +1,19 @@
--- That a worker of an epoch may go to its thread, and come back.
+-- That a task of an epoch may go to its thread, and that what is left of one may come back.
 use denote.RattleType.{RattleType}
 use denote.Param.Send.{IsSend, sendable, view_send, recorded_send, struct_send}
 use denote.Struct.Declared.{shape}
 use Rattle.std.proofs.Crossing.{crosses}
+use Rattle.cap_lanes.proofs.committer.Committer.TheSendSync as committer
+use Rattle.cap_lanes.proofs.putter.Putter.TheSendSync as putter
 use Rattle.cap_shared.proofs.Crossing.{Replica-send}
 use Rattle.cap_shared.proofs.seat.Seat.TheSendSync as seat
 use Rattle.cap_shared.specs.declared.seat.Naming as naming
 use Rattle.cap_workers.specs.contracts.follower.Follower as Follower
 use Rattle.cap_workers.specs.contracts.follower.Follower.TheInside as follower
 use Rattle.cap_workers.specs.contracts.scheduler.Scheduler as Scheduler
+use Rattle.cap_server.proofs.connection.ClientConnection.TheSendSync as connection
+use Rattle.cap_server.specs.contracts.task.Done as Done
+use Rattle.cap_server.specs.contracts.task.Task as Task
 
 module _ (J : RattleType) (epoch : naming.Ghosts J.Denot) where
   Follower-send : IsSend J → IsSend (Follower.the_row J epoch)
@@ -18,5 +23,11 @@ module _ (J : RattleType) (epoch : naming.Ghosts J.Denot) where
         ((search (Replica-send, crosses, sendable) depth 60), tt),
       )))
 
-  pub Scheduler-send : IsSend J → IsSend (Scheduler.the_row J epoch)
+  Scheduler-send : IsSend J → IsSend (Scheduler.the_row J epoch)
   Scheduler-send s = search (Follower-send, crosses, sendable) depth 60 fits 20000
+
+  pub Task-send : IsSend J → IsSend (Task.the_row J epoch)
+  Task-send s = search (Scheduler-send, committer.the_send, putter.the_send, seat.the_send, crosses, sendable) depth 60 fits 20000
+
+  pub Done-send : IsSend J → IsSend (Done.the_row J epoch)
+  Done-send s = search (Scheduler-send, connection.the_send, seat.the_send, crosses, sendable) depth 60 fits 20000

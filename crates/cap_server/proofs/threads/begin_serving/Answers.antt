@@ -1,9 +1,7 @@
 use denote.Param.Send.{sendable}
 use Rattle.std.proofs.Crossing.{crosses}
 use Rattle.cap_shared.proofs.Crossing.{Shared-sync}
-use Rattle.cap_shared.proofs.seat.Seat.TheSendSync as seat
-use Rattle.cap_server.proofs.Crossing.{Scheduler-send}
-use Rattle.cap_server.proofs.connection.ClientConnection.TheSendSync as connection
+use Rattle.cap_server.proofs.Crossing.{Done-send}
 use Rattle.cap_server.proofs.places.Place.TheSendSync as place
 use Rattle.cap_server.proofs.state.SharedState.TheSendSync as state
 use Rattle.cap_server.proofs.threads.begin_serving.Goals as goal
@@ -16,4 +14,6 @@ spawn_scoped-requires-send-F g c κs within =
     search (Shared-sync, place.the_sync, state.the_sync, crosses, sendable) depth 60
 
 pub spawn_scoped-requires-send-T : goal.spawn_scoped-requires-send-T
-spawn_scoped-requires-send-T g c κs within = let j = c.type_bounds.send-J in search (Scheduler-send, connection.the_send, seat.the_send, crosses, sendable) depth 60
+spawn_scoped-requires-send-T g c κs within =
+    let j = c.type_bounds.send-J in
+    search (Done-send, sendable) depth 60 fits 20000

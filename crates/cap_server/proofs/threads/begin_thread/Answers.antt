@@ -1,12 +1,8 @@
 use denote.Param.Send.{sendable}
 use Rattle.std.proofs.Crossing.{crosses}
-use Rattle.cap_lanes.proofs.committer.Committer.TheSendSync as committer
-use Rattle.cap_lanes.proofs.putter.Putter.TheSendSync as putter
 use Rattle.cap_shared.proofs.Crossing.{Shared-sync}
-use Rattle.cap_shared.proofs.seat.Seat.TheSendSync as seat
 use Rattle.cap_workers.proofs.coordinator.Coordinator.TheSendSync as coordinator
-use Rattle.cap_server.proofs.Crossing.{Scheduler-send}
-use Rattle.cap_server.proofs.connection.ClientConnection.TheSendSync as connection
+use Rattle.cap_server.proofs.Crossing.{Task-send, Done-send}
 use Rattle.cap_server.proofs.state.SharedState.TheSendSync as state
 use Rattle.cap_server.proofs.threads.begin_thread.Goals as goal
 
@@ -15,7 +11,9 @@ spawn-requires-send-F g c κs within =
     let j = c.type_bounds.send-J in
     let h = c.type_bounds.sync-H in
     let w = c.type_bounds.sync-G in
-    search (Shared-sync, Scheduler-send, committer.the_send, putter.the_send, seat.the_send, state.the_sync, coordinator.the_sync, crosses, sendable) depth 60
+    search (Shared-sync, Task-send, state.the_sync, coordinator.the_sync, crosses, sendable) depth 60 fits 20000
 
 pub spawn-requires-send-T : goal.spawn-requires-send-T
-spawn-requires-send-T g c κs within = let j = c.type_bounds.send-J in search (Scheduler-send, connection.the_send, seat.the_send, crosses, sendable) depth 60
+spawn-requires-send-T g c κs within =
+    let j = c.type_bounds.send-J in
+    search (Done-send, sendable) depth 60 fits 20000
