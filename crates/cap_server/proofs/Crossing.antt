@@ -1,6 +1,7 @@
 -- That a task of an epoch may go to its thread, and that what is left of one may come back.
 use denote.RattleType.{RattleType}
-use denote.Param.Send.{IsSend, sendable, view_send, recorded_send, struct_send}
+use denote.Param.Send.{IsSend, sendable, enum_send, view_send, recorded_send, struct_send}
+use denote.Enum.Declared as enum
 use denote.Struct.Declared.{shape}
 use Rattle.std.proofs.Crossing.{crosses}
 use Rattle.cap_lanes.proofs.committer.Committer.TheSendSync as committer
@@ -23,11 +24,20 @@ module _ (J : RattleType) (epoch : naming.Ghosts J.Denot) where
         ((search (Replica-send, crosses, sendable) depth 60), tt),
       )))
 
-  Scheduler-send : IsSend J → IsSend (Scheduler.the_row J epoch)
-  Scheduler-send s = search (Follower-send, crosses, sendable) depth 60 fits 20000
+  -- as a field of others
+  Scheduler-field : IsSend J → IsSend (Scheduler.the_field J epoch).row
+  Scheduler-field s = struct_send (shape (Scheduler.the_type J epoch)) ((search (crosses, sendable) depth 60), ((search (Follower-send, crosses, sendable) depth 60), tt))
 
   pub Task-send : IsSend J → IsSend (Task.the_row J epoch)
-  Task-send s = search (Scheduler-send, committer.the_send, putter.the_send, seat.the_send, crosses, sendable) depth 60 fits 20000
+  Task-send s =
+      recorded_send (Task.the_field J epoch).row _ _ (Task.the_type J epoch).to_one (enum_send (enum.shape (Task.the_type J epoch)) (
+        (Scheduler-field s, ((search (putter.the_send, crosses, sendable) depth 60), tt)),
+        (((search (committer.the_send, committer.the_field_send, crosses, sendable) depth 60), ((search (seat.the_send, crosses, sendable) depth 60), tt)), tt),
+      ))
 
   pub Done-send : IsSend J → IsSend (Done.the_row J epoch)
-  Done-send s = search (Scheduler-send, connection.the_send, seat.the_send, crosses, sendable) depth 60 fits 20000
+  Done-send s =
+      recorded_send (Done.the_field J epoch).row _ _ (Done.the_type J epoch).to_one (enum_send (enum.shape (Done.the_type J epoch)) (
+        ((search (connection.the_field_send, crosses, sendable) depth 60), ((search (seat.the_send, crosses, sendable) depth 60), tt)),
+        (((search (seat.the_send, crosses, sendable) depth 60), tt), ((Scheduler-field s, tt), (((search (seat.the_send, crosses, sendable) depth 60), tt), (tt, tt)))),
+      ))

@@ -1,0 +1,13 @@
+use Rattle.std.proofs.Common.{◌≡◌, List, subst, sym}
+use Rattle.std.specs.List.{All}
+use Rattle.std.proofs.lemmas.List.Elements.{All-push}
+use Rattle.cap_base.specs.Limits.{resources}
+use Rattle.cap_model.specs.Flat.{opened_cluster}
+use Rattle.cap_workers.specs.declared.idle.IdleWorker.{IdleWorker}
+use Rattle.cap_server.proofs.serving.workers_of.Goals as goal
+
+pub loop-number-preserved : goal.loop-number-preserved
+loop-number-preserved c =
+    let P : IdleWorker → Type 0 = λ w. w.cluster.flat ≡ opened_cluster {K = resources} c.args.config.now in
+    subst (λ (ws : List IdleWorker). All P ws) (sym c.in-Ok.ensures.items)
+    (All-push P c.loop-number.workers.items (record { worker = c.new.result; cluster = c.in_ok-from_config.field-0 }) c.loop-number.invariant c.in_ok-from_config.ensures)
