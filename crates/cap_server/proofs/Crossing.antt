@@ -32,7 +32,7 @@ module _ (J : RattleType) (epoch : naming.Ghosts J.Denot) where
   Task-send s =
       recorded_send (Task.the_field J epoch).row _ _ (Task.the_type J epoch).to_one (enum_send (enum.shape (Task.the_type J epoch)) (
         (Scheduler-field s, ((search (putter.the_send, crosses, sendable) depth 60), tt)),
-        (((search (committer.the_send, committer.the_field_send, crosses, sendable) depth 60), ((search (seat.the_send, crosses, sendable) depth 60), tt)), tt),
+        (((search (committer.the_send, crosses, sendable) depth 60), ((search (seat.the_send, crosses, sendable) depth 60), tt)), tt),
       ))
 
   pub Done-send : IsSend J → IsSend (Done.the_row J epoch)
