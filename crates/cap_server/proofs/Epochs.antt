@@ -26,6 +26,10 @@ totals_more journals journal totals n is count =
     let epochs : length (journals ++ journal ∷ []) ≡ length journals + 1 = length-append journals (journal ∷ []) in
     rw (is, all, epochs, min_more (length journals) 1 count_max, min_more (length (flat_map (λ it. it) journals)) n count_max) refl
 
+-- no epoch yet
+pub through_none : (limit : ℕ) (s : Flat resources) → LeadsThrough limit s (record { epochs = 0; entries = 0 }) s
+through_none limit s = record { journals = []; run = refl; counts = refl; within = All-nil (λ it. length it ≤ limit) }
+
 -- one epoch more
 pub through_more : (limit n : ℕ) (s m t : Flat resources) (totals : Totals) → LeadsThrough limit s totals m → LeadsTo limit m n t
     → LeadsThrough limit s (one_more totals n) t
