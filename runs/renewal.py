@@ -252,7 +252,8 @@ def check_shortage(program):
         with begin(program) as run:
             first = run.connect()
             expect(is_answered(first), what, "no answer before it")
-            limit = size_of(run, "VmSize") * KIB + STACK // 2
+            time.sleep(0.5)  # until the workers rest, so that nothing else is wanted than a thread
+            limit = size_of(run, "VmSize") * KIB + STACK * 7 // 8
             resource.prlimit(run.process.pid, resource.RLIMIT_AS, (limit, resource.RLIM_INFINITY))
             second = run.connect()
             second.sendall(daemon.ASK)
