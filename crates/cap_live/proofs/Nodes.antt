@@ -1,5 +1,5 @@
 -- The nodes of a cluster, as its sight shows them.
-use Rattle.cap_live.proofs.Prelude.{◌≡◌, ℕ, ◌+◌, ◌≤◌, ◌<◌, Bool, false, cond, ◌&&◌, List, map, length, Option, Some, None, refl, sym, ◌∙◌, ap, subst, arith, inl, inr, ◌==◌, All, option_map, slice_get, is_none, is_some, IsSome, IsTrue, ◌↔◌, cases_lt, same_Some, same_test, length-map, slice_get-map, find_mapped_at, of_each, of_map, found_by_number, IsRising, amounts_fit, fits_amounts, fits, Fits, less, Ask, takes_place, ClusterNode, Flat, NodeTable, Reservation, NodeSight, node_sight, seen_node, sight_of, Load, IsLoadIn, load_sight, IsReserved, IsTurn, IsUnfit, kind_by_room, ring_index, taken_as}
+use Rattle.cap_live.proofs.Prelude.{◌≡◌, ℕ, ◌+◌, ◌≤◌, ◌<◌, Bool, false, cond, ◌&&◌, List, map, length, Option, Some, None, refl, sym, ◌∙◌, ap, subst, arith, inl, inr, ◌==◌, All, option_map, slice_get, is_none, is_some, IsSome, IsTrue, ◌↔◌, cases_lt, same_Some, same_test, length-map, slice_get-map, find_mapped_at, of_each, of_map, found_by_number, IsRising, amounts_fit, fits_amounts, fits, Fits, less, Ask, takes_place, ClusterNode, Flat, NodeTable, Reservation, NodeSight, node_sight, seen_node, sight_of, could_take, Load, IsLoadIn, load_sight, IsReserved, IsTurn, IsUnfit, kind_by_room, ring_index, taken_as, true, amount, amount-less, held_on, Grant, Reserve, All-map, All-weaker, get_or_from_slice_get, slice_get_within}
 
 module _ {K : ℕ} (flat : Flat K) where
   pub count_is : length (sight_of flat).nodes ≡ length flat.nodes.present
@@ -60,3 +60,35 @@ unfit ask nodes first from to t = record { later = t.later; within = t.within; p
     by : (o : Option Reservation) (node : NodeSight) → node.reservation ≡ o → IsSome o → taken_as node ask ≡ None
     by None node e some = absurd (cc some)
     by (Some r) node e some = ap (λ x. cond (is_none x && takes_place ask.place node) (kind_by_room node ask) None) e
+
+-- where no node could take an ask, not even one that is empty, no node takes it
+module _ {K : ℕ} (flat : Flat K) (ask : Ask) where
+  unfit_of : (node : ClusterNode) → could_take ask.place ask.resource node ≡ false → IsUnfit ask (node_sight flat node)
+  unfit_of node off = by (is_none s.reservation) (takes_place ask.place s) (fits ask.resource s.total) (fits ask.resource s.free) refl refl off
+    where
+      s : NodeSight
+      s = node_sight flat node
+
+      by : (r t f g : Bool) → fits ask.resource s.total ≡ f → fits ask.resource s.free ≡ g → t && f ≡ false → cond (r && t) (cond g (Some Grant) (cond f (Some Reserve) None)) None ≡ None
+      by false t f g total free e = refl
+      by true false f g total free e = refl
+      by true true true g total free e = absurd (cc e)
+      by true true false false total free e = refl
+      by true true false true total free e =
+          let fit : (k : ℕ) → amount ask.resource k ≤ amount s.total k = λ k.
+          let low = fits_amounts ask.resource s.free free k in let left = amount-less node.total (held_on K flat.nodes node.number) k in omega (arith, low, left) in
+          absurd (cc (sym total ∙ amounts_fit ask.resource s.total fit))
+
+  pub none_fits : (table : NodeTable) → table ≡ flat.nodes → All (λ node. could_take ask.place ask.resource node ≡ false) table.present → (first turn count : ℕ) → turn ≤ length (sight_of flat).nodes → count ≡ length table.present →
+      IsTurn (IsUnfit ask) (sight_of flat).nodes first turn count
+  none_fits table same none first turn count le is =
+      let whole : count ≡ length (sight_of flat).nodes = is ∙ ap (λ (t : NodeTable). length t.present) same ∙ sym (count_is flat) in
+      let here = subst (λ (t : NodeTable). All (λ node. could_take ask.place ask.resource node ≡ false) t.present) same none in
+      let unfit = All-map (IsUnfit ask) (node_sight flat) flat.nodes.present (All-weaker (λ node. could_take ask.place ask.resource node ≡ false) (λ node. IsUnfit ask (node_sight flat node)) unfit_of flat.nodes.present here) in
+      record {
+        later = omega (arith, le, whole);
+        within = omega (arith, whole);
+        passed = λ n node from before at.
+            let i = ring_index first n (length (sight_of flat).nodes) in
+            subst (IsUnfit ask) (get_or_from_slice_get (sight_of flat).nodes i node node at) (unfit i node (slice_get_within (sight_of flat).nodes i node at));
+      }

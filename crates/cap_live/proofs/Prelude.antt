@@ -33,11 +33,12 @@ pub use Rattle.cap_model.specs.Bounds.{AreApart}
 pub use Rattle.cap_model.specs.Choice.{level_of}
 pub use Rattle.cap_model.specs.Flat.{App, AppTable, ClusterNode, Flat, NodeTable, Reservation, app_at, app_in, ask_at, is_for, node_in, reservation_on}
 pub use Rattle.cap_model.specs.Sight.{AppSight, NodeSight, QueueSight, Sight, app_sight, node_sight, queue_sight, queues_to, seen_app, seen_node, seen_queue, sight_of, still_wanted}
-pub use Rattle.cap_model.specs.Uses.{user_use}
+pub use Rattle.cap_model.specs.Uses.{held_on, user_use}
 pub use Rattle.cap_model.specs.declared.ask.Key.{Key}
+pub use Rattle.cap_model.specs.declared.proposal.ProposalKind.TheVariants.{Grant, Reserve}
 pub use Rattle.cap_nodes.proofs.Most.{fits_by_most}
 pub use Rattle.cap_nodes.specs.Loads.{Load}
-pub use Rattle.cap_nodes.specs.Tables.{IsLoadIn}
+pub use Rattle.cap_nodes.specs.Tables.{IsLoadIn, could_take}
 pub use Rattle.cap_tree.proofs.RowPaths.{along_rows, at_position, none_fails}
 pub use Rattle.cap_tree.specs.Limits.{over_limit}
 pub use Rattle.cap_tree.specs.Measure.{Measure}
@@ -47,14 +48,15 @@ pub use Rattle.cap_tree.specs.Rows.{AreRows, IsAt, Row, queues_of, rows_to, sett
 pub use Rattle.cap_tree.specs.Service.{level_of_row, levels_at}
 pub use Rattle.cap_tree.specs.Spot.{HoldsOfItem, IsPosition, first_failing, item_at, path_at}
 pub use Rattle.cap_tree.specs.Waiting.{HasNoWaiter, IsLaterWaiter, IsNextWaiter, waiter_cmp, waiting_at}
-pub use Rattle.cap_vector.proofs.AmountLemmas.{amount-exchanged}
+pub use Rattle.cap_vector.proofs.AmountLemmas.{amount-exchanged, amount-less}
 pub use Rattle.cap_vector.specs.Vector.{Fits, amount, amounts_exchanged, less}
 pub use Rattle.std.proofs.Common.{Bool, List, [], ap, arith, cond, drop, false, inl, inr, length, map, refl, subst, suc, sym, true, zero, ℕ, ◌&&◌, ◌+◌, ◌-◌, ◌<◌, ◌∙◌, ◌∷◌, ◌≡◌, ◌≤◌, ◌⊎◌}
 pub use Rattle.std.proofs.lemmas.Bool.Decides.{nat_tests}
 pub use Rattle.std.proofs.lemmas.Bool.{and_from, and_parts, cases_lt, eqb-true}
+pub use Rattle.std.proofs.lemmas.List.Elements.{All-map, All-weaker}
 pub use Rattle.std.proofs.lemmas.List.Folds.{list_all-map}
 pub use Rattle.std.proofs.lemmas.List.{drop-map, length-map, nil_from_length}
-pub use Rattle.std.proofs.lemmas.Option.{same_Some, slice_get-map, slice_get_read, slice_get_within}
+pub use Rattle.std.proofs.lemmas.Option.{get_or_from_slice_get, same_Some, slice_get-map, slice_get_read, slice_get_within}
 pub use Rattle.std.proofs.lemmas.Slice.Eq.{bytes_eq-Decides}
 pub use Rattle.std.specs.Borrow.{Bor}
 pub use Rattle.std.specs.Cmp.Lexicographic.{slice_cmp}

@@ -93,7 +93,11 @@ impl<'a, const K: usize> Farm<K> for Live<'a, K> {
         end
     }
 
-    fn next_fit(&self, first: usize, turn: usize, _ask: &Ask<K>) -> usize {
+    fn next_fit(&self, first: usize, turn: usize, ask: &Ask<K>) -> usize {
+        let nodes = self.cluster.nodes();
+        if turn == 0 && !nodes.may_take(&ask.place(), &ask.resource()) {
+            return nodes.count();
+        }
         self.next_unreserved(first, turn)
     }
 

@@ -36,6 +36,7 @@ fn admit<const K: usize>(cluster: &Cluster<K>, path: &PathText) -> Result<Positi
     ensures err { IfErr result
         (λ refusal. submit_refusal cluster.now.flat path.now ≡ Some refusal) }
 {
+    let apps = cluster.apps();
     let tree = cluster.tree();
     let position = match tree.find(path.as_bytes()) {
         Found::Leaf(position) => position,
@@ -45,10 +46,10 @@ fn admit<const K: usize>(cluster: &Cluster<K>, path: &PathText) -> Result<Positi
     if !tree.running(&position) {
         return Err(Refusal::QueueStopped);
     }
-    if cluster.settings().application_limit <= cluster.apps().count() as u64 {
+    if cluster.settings().application_limit <= apps.count() as u64 {
         return Err(Refusal::TooManyApplications);
     }
-    if cluster.apps().next() >= NUMBER_END {
+    if apps.next() >= NUMBER_END {
         return Err(Refusal::NumbersSpent);
     }
     Ok(position)

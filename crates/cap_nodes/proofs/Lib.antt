@@ -3,6 +3,8 @@ pub mod ByNumber
 pub mod Pairs
 pub mod Owned
 mod Prelude
+pub mod PlaceCounts
+pub mod Greater
 pub mod Presents
 pub mod Sums
 pub mod Counting

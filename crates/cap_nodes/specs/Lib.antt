@@ -1,4 +1,5 @@
 pub mod Tables
 pub mod Counting
 pub mod Loads
+pub mod Places
 pub mod Changes

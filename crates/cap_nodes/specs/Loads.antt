@@ -1,22 +1,20 @@
 -- The nodes with what their containers hold, and the live containers.
-use Rattle.std.specs.Prelude.{◌≡◌, ℕ, bytes_eq, ◌+◌, ◌-◌, ◌<◌, ◌≤◌, List, length, not, ◌&&◌, ◌||◌, Option, None, Some, Bool, false, IsSome, map, find, count_by, ◌==◌, if◌then◌else◌, ◌++◌, ◌∷◌, []}
+use Rattle.std.specs.Prelude.{◌≡◌, ℕ, ◌+◌, ◌-◌, ◌<◌, ◌≤◌, List, length, not, ◌&&◌, ◌||◌, Option, None, Some, Bool, false, IsSome, map, find, count_by, ◌==◌, if◌then◌else◌, ◌++◌, ◌∷◌, []}
 use Rattle.std.specs.List.{AllByRecursion, list_any}
 use Rattle.std.specs.BTreeMap.{is_at}
 use Rattle.std.specs.Option.{option_or}
-use Rattle.std.specs.Map.{lookup, values_of}
+use Rattle.std.specs.Map.{values_of}
 use Rattle.std.specs.Ordering.{nat_cmp, ordering_then}
 use Rattle.std.specs.declared.cmp.Ordering.{Ordering}
 use Rattle.cap_vector.specs.Vector.{Fits, IsWithin, amount_max, plus, less, zeros}
 use Rattle.cap_base.specs.Limits.{live_max}
 use Rattle.cap_base.specs.Amounts.{sum_where}
 use Rattle.cap_base.specs.Members.{IsRising}
-use Rattle.cap_base.specs.Texts.{is_text}
 use Rattle.cap_model.specs.Flat.{ClusterNode, Container, NodeTable, Reservation, change_node, containers_on, is_for}
 use Rattle.cap_model.specs.Heartbeat.{after_beat}
 use Rattle.cap_model.specs.declared.ask.Key.{Key}
 use Rattle.cap_model.specs.Events.{launch}
 use Rattle.cap_model.specs.RegisterNode.{new_node}
-use Rattle.cap_nodes.specs.Counting.{AreCounted}
 
 -- a node, what its live containers hold, how many they are, and its reservation
 pub record Load : Type 0 where
@@ -116,11 +114,6 @@ pub record IsNumbered {X : Type 0} (num : X → ℕ) (most : ℕ) (entries : Lis
   pub tagged : entries ≡ tagged_items num (values_of entries)
   pub rising : IsRising 1 (map num (values_of entries)) next
   pub few : length (values_of entries) ≤ most
-
--- each host with how many loads are of nodes that have it, and nothing that is no host
-pub record AreHosts (entries : List (List ℕ × ℕ)) (loads : List Load) : Type 0 where
-  pub counts : AreCounted bytes_eq (λ p. p.node.host) entries loads
-  pub texts : (h : List ℕ) → is_text 64 h ≡ false → lookup (bytes_eq h) entries ≡ None
 
 -- a node holds what the live containers on it hold, which fits its total
 pub record IsTied (K : ℕ) (live : List Container) (p : Load) : Type 0 where

@@ -1,5 +1,6 @@
 //! How many things have each key, found by hash (`KeyCounts`).
-ghost use Rattle.std.specs.Prelude.{◌≡◌, OnOk, OnErr, []};
+ghost use Rattle.std.specs.Prelude.{◌≡◌, ◌+◌, ◌-◌, ◌<◌, OnOk, OnErr, []};
+ghost use Rattle.cap_base.specs.Limits.{nodes_max};
 ghost use Rattle.cap_nodes.specs.Counting.{HasCount, count_in};
 
 use cap_model::NoMemory;
@@ -56,5 +57,27 @@ impl<Q: Copy + Hash + Eq> KeyCounts<Q> {
             Ok(_) => Ok(()),
             Err(_) => Err(NoMemory),
         }
+    }
+
+    /// One more thing has the key. `NoMemory` changes nothing.
+    pub(crate) fn more(&mut self, key: &Q) -> Result<(), NoMemory>
+        requires { count_in Q.eq self.old key.now < nodes_max }
+        ensures ok { OnOk result
+            (HasCount Q.eq key.now (count_in Q.eq self.old key.now + 1) self.old self.new) }
+        ensures err { OnErr result (self.new ≡ self.old) }
+    {
+        let count = self.get(key);
+        self.set(key, count + 1)
+    }
+
+    /// One thing less has the key.
+    pub(crate) fn fewer(&mut self, key: &Q)
+        requires { 0 < count_in Q.eq self.old key.now }
+        ensures { HasCount Q.eq key.now (count_in Q.eq self.old key.now - 1) self.old self.new }
+    {
+        let count = self.get(key);
+        let Ok(()) = self.set(key, count - 1) else {
+            unreachable!()
+        };
     }
 }

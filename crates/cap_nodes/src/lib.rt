@@ -9,6 +9,7 @@ mod load;
 mod node;
 mod nodes;
 mod owners;
+mod places;
 mod present;
 mod reserved;
 

@@ -13,7 +13,7 @@ ghost use Rattle.cap_model.specs.Events.{add_reservation};
 ghost use Rattle.cap_model.specs.Ending.{complete};
 ghost use Rattle.cap_model.specs.NodeGone.{remove_node};
 ghost use Rattle.cap_model.specs.Uses.{held_on};
-ghost use Rattle.cap_nodes.specs.Tables.{free_on, IsLoadIn, IsSound};
+ghost use Rattle.cap_nodes.specs.Tables.{could_take, free_on, IsLoadIn, IsSound};
 ghost use Rattle.cap_nodes.specs.Loads.{add_container, new_reservation, reservation_of, after_beat_of, made_after};
 
 use crate::change::Change;
@@ -169,6 +169,15 @@ impl<const K: usize> Nodes<K> {
         ensures { result ≡ list_any (λ node. bytes_eq node.host host.now) self.now.present }
     {
         self.present.is_host_taken(host)
+    }
+
+    /// Whether a present node might take an ask of this place and size, in MiB, vcores and GPUs: false only where none could, not even
+    /// one that is empty. It looks at no node.
+    pub fn may_take(&self, place: &ShortText, resource: &Resource<K>) -> bool
+        ensures { result ≡ false →
+            All (λ node. could_take place.now resource.now node ≡ false) self.now.present }
+    {
+        self.present.may_take(place, resource)
     }
 
     /// The live container of this number, none where none is live. Each is on a present node.

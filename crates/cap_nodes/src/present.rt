@@ -1,35 +1,39 @@
 //! The nodes that are present, found by number and by index (`Present`).
-ghost use Rattle.std.specs.Prelude.{◌≡◌, ◌+◌, ◌<◌, ◌≤◌, [], Some, None, option_and_then, ◌==◌, IsSome, IfSome, IfOk, OnOk, OnErr, bytes_eq, count_by, length, filter, not, true};
-ghost use Rattle.std.specs.List.{list_any, slice_get};
+ghost use Rattle.std.specs.Prelude.{◌≡◌, ◌+◌, ◌<◌, ◌≤◌, [], Some, None, option_and_then, ◌==◌, IsSome, IfSome, IfOk, OnOk, OnErr, bytes_eq, length, filter, not, false};
+ghost use Rattle.std.specs.List.{All, list_any, slice_get};
 ghost use Rattle.std.specs.Option.{option_copied};
 ghost use Rattle.cap_base.specs.Limits.{nodes_max, number_end};
-ghost use Rattle.cap_base.specs.Texts.{is_text};
+ghost use Rattle.cap_vector.specs.Vector.{Fits};
 ghost use Rattle.cap_nodes.specs.Changes.{Counts, MayChange, changed_by};
 ghost use Rattle.cap_nodes.specs.Loads.{load_at, beaten_load, add_load, with_load};
+ghost use Rattle.cap_nodes.specs.Tables.{could_take};
 
 use crate::change::Change;
-use crate::key_counts::KeyCounts;
 use crate::load::Load;
 use crate::node::Node;
+use crate::places::Places;
 use cap_model::{HeartbeatReply, NoMemory, Reservation, ShortText};
-use cap_vector::Resource;
+use cap_vector::{Resource, fits};
 use indexmap::IndexMap;
 use std::alloc::Global;
 use std::marker::Model;
 
-/// The nodes that are present, in order of number, and the number of the next. Each host that a node has is found by hash, with how
-/// many have it. The blank load holds nothing: that it lies in the table makes the size of a load known wherever the table is.
+/// The nodes that are present, in order of number, and the number of the next. Each host and each rack that a node has is found by
+/// hash, and no node has more of a resource than the greatest amount of it. The blank load holds nothing: that it lies in the table
+/// makes the size of a load known wherever the table is.
 #[derive(Drop)]
 pub(crate) struct Present<const K: usize> {
     loads: IndexMap<u64, Load<K>>,
     next: u64,
     blank: Load<K>,
-    hosts: KeyCounts<ShortText>,
+    places: Places,
+    greatest: Resource<K>,
 }
 
 impl<const K: usize> Model for Present<K> {
     ghost use Rattle.std.specs.HashMap.{values};
-    ghost use Rattle.cap_nodes.specs.Loads.{AreHosts, IsNumbered, LoadTable};
+    ghost use Rattle.cap_nodes.specs.Loads.{IsNumbered, LoadTable};
+    ghost use Rattle.cap_nodes.specs.Places.{ArePlaces, AreWithin};
     ghost use Rattle.cap_base.specs.Limits.{nodes_max};
 
     ghost Value = { LoadTable };
@@ -37,7 +41,7 @@ impl<const K: usize> Model for Present<K> {
     ghost view = { λ t. record { loads = values t.loads; next = t.next } };
 
     ghost invariant = { λ t. IsNumbered (λ p. p.node.number) nodes_max t.loads.entries t.next
-        × AreHosts t.hosts (values t.loads) };
+        × ArePlaces t.places (values t.loads) × AreWithin t.greatest (values t.loads) };
 }
 
 impl<const K: usize> Present<K> {
@@ -49,7 +53,8 @@ impl<const K: usize> Present<K> {
             loads: IndexMap::new(alloc),
             next: 1,
             blank: Load::blank(),
-            hosts: KeyCounts::new(alloc),
+            places: Places::new(alloc),
+            greatest: Resource::zero(),
         }
     }
 
@@ -88,20 +93,23 @@ impl<const K: usize> Present<K> {
     pub(crate) fn is_host_taken(&self, host: &[u8]) -> bool
         ensures { result ≡ list_any (λ p. bytes_eq p.node.host host.now) self.now.loads }
     {
-        let hosts = &self.hosts;
+        let places = &self.places;
         let Some(host) = ShortText::new(host) else {
             return false;
         };
-        hosts.get(&host) > 0
+        places.has_host(&host)
     }
 
-    /// How many have the host. And that it is a text.
-    fn count_at(&self, host: &ShortText) -> u32
-        ensures value { result ≡ count_by (λ p. bytes_eq p.node.host host.now) self.now.loads }
-        ensures text { is_text 64 host.now ≡ true }
+    /// Whether a node might take an ask of this place and size: false only where none could, not even one that is empty. It looks at
+    /// no node.
+    pub(crate) fn may_take(&self, place: &ShortText, resource: &Resource<K>) -> bool
+        ensures { result ≡ false →
+            All (λ p. could_take place.now resource.now p.node ≡ false) self.now.loads }
     {
-        let _ = host.as_bytes();
-        self.hosts.get(host)
+        if !fits(resource, &self.greatest) {
+            return false;
+        }
+        self.places.has(place)
     }
 
     /// One more, with no container and this reservation, under the next number. `NoMemory` changes nothing.
@@ -125,18 +133,18 @@ impl<const K: usize> Present<K> {
             live: 0,
             reservation: *reservation,
         };
-        let count = self.count_at(host) + 1;
         match self.loads.reserve(1) {
             Ok(()) => {}
             Err(_) => return Err(NoMemory),
         }
-        match self.hosts.set(host, count) {
+        match self.places.add(host, rack) {
             Ok(()) => {}
             Err(_) => return Err(NoMemory),
         }
         let Ok(_) = self.loads.insert(number, load) else {
             unreachable!()
         };
+        self.greatest = greater(&self.greatest, total);
         self.next = number + 1;
         Ok(number)
     }
@@ -175,11 +183,27 @@ impl<const K: usize> Present<K> {
         let Some(load) = self.loads.get(&number) else {
             return;
         };
-        let host = *load.node().host();
-        let count = self.count_at(&host) - 1;
-        let Ok(()) = self.hosts.set(&host, count) else {
-            unreachable!()
-        };
+        let node = load.node();
+        let host = *node.host();
+        let rack = *node.rack();
+        self.places.remove(&host, &rack);
         self.loads.shift_remove(&number);
     }
+}
+
+/// The greater of two amounts of each resource.
+fn greater<const K: usize>(a: &Resource<K>, b: &Resource<K>) -> Resource<K>
+    ensures first { Fits a.now result }
+    ensures second { Fits b.now result }
+{
+    let firsts = a.amounts();
+    let seconds = b.amounts();
+    let mut amounts = [0; K];
+    for k in 0..K {
+        amounts[k] = firsts[k].max(seconds[k]);
+    }
+    let Some(greater) = Resource::new(amounts) else {
+        unreachable!()
+    };
+    greater
 }

@@ -32,6 +32,8 @@ pub fn set_queue_state<const K: usize>(
         result cluster.new.flat }
     ensures numbers { HasNumbers cluster.new.flat result }
 {
+    // What holds of every cluster is known from here on.
+    cluster.apps();
     let position = match cluster.tree().find(path.as_bytes()) {
         Found::Leaf(position) => position,
         Found::Parent(position) => position,

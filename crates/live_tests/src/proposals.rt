@@ -53,6 +53,101 @@ static CALLS: [Call<'static>; 10] = [
 /// The second container, which is on `n2`, ends.
 const END: Call<'static> = Call::Heartbeat(2, 0, &[2]);
 
+/// One on the host `n3`, one on the rack `/r3`, and one of (6144, 4) anywhere.
+const ASKS_AHEAD: &[WantedContainers<'static>] = &[
+    WantedContainers {
+        priority: 1,
+        request: 0,
+        count: 1,
+        resource: [1024, 1, 0],
+        place: b"n3",
+    },
+    WantedContainers {
+        priority: 2,
+        request: 0,
+        count: 1,
+        resource: [1024, 1, 0],
+        place: b"/r3",
+    },
+    WantedContainers {
+        priority: 3,
+        request: 0,
+        count: 1,
+        resource: [6144, 4, 0],
+        place: b"*",
+    },
+];
+
+/// A call, and what is proposed after it from the first node on: the priority of the ask and the number of the node.
+struct Visit {
+    call: Call<'static>,
+    chosen: Option<(u32, u64)>,
+}
+
+/// The asks come before each node that can take one, and nodes come and go.
+static VISITS: [Visit; 14] = [
+    Visit {
+        call: Call::RegisterNode(b"n1", b"/r1", [4096, 4, 0]),
+        chosen: None,
+    },
+    Visit {
+        call: Call::Submit(b"root.a", b"u1"),
+        chosen: None,
+    },
+    Visit {
+        call: Call::RegisterMaster(1),
+        chosen: None,
+    },
+    Visit {
+        call: Call::Allocate(1, 0, ASKS_AHEAD, &[]),
+        chosen: None,
+    },
+    // The host and the rack come, and go.
+    Visit {
+        call: Call::RegisterNode(b"n3", b"/r3", [4096, 4, 0]),
+        chosen: Some((1, 2)),
+    },
+    Visit {
+        call: Call::NodeGone(2),
+        chosen: None,
+    },
+    // The rack comes again with another host, then a second node of it.
+    Visit {
+        call: Call::RegisterNode(b"n2", b"/r3", [2048, 2, 0]),
+        chosen: Some((2, 3)),
+    },
+    Visit {
+        call: Call::RegisterNode(b"n4", b"/r3", [2048, 2, 0]),
+        chosen: Some((2, 3)),
+    },
+    Visit {
+        call: Call::NodeGone(3),
+        chosen: Some((2, 4)),
+    },
+    // Its last node goes, and the host comes again.
+    Visit {
+        call: Call::NodeGone(4),
+        chosen: None,
+    },
+    Visit {
+        call: Call::RegisterNode(b"n3", b"/r1", [2048, 2, 0]),
+        chosen: Some((1, 5)),
+    },
+    Visit {
+        call: Call::NodeGone(5),
+        chosen: None,
+    },
+    // A node comes that is large enough, and goes.
+    Visit {
+        call: Call::RegisterNode(b"n6", b"/r6", [8192, 8, 0]),
+        chosen: Some((3, 6)),
+    },
+    Visit {
+        call: Call::NodeGone(6),
+        chosen: None,
+    },
+];
+
 /// What a proposal is made of, to compare.
 type Parts = (bool, u64, Key, u64, [u64; RESOURCES]);
 
@@ -119,4 +214,31 @@ fn made(alloc: Global) -> Option<(u32, u32)> {
 fn proposals_on_a_cluster_are_those_on_its_snapshot(rt: HostRuntime) {
     // Four are granted; the ask for `/r2` gets a reservation on `n2`, which is converted once there is room.
     assert!(rt; made(rt.alloc()) == Some((5, 1)));
+}
+
+/// The priority of the ask and the number of the node of what is proposed from the first node on.
+fn chosen(cluster: &Cluster<RESOURCES>) -> Option<(u32, u64)> {
+    let proposal = propose_live(cluster, 0)?;
+    Some((proposal.key.priority, proposal.node))
+}
+
+/// How many of the visits are as the table says, each with the same proposals on the cluster and on its snapshot. `None` if these differ,
+/// or an allocation fails.
+fn visited(alloc: Global) -> Option<usize> {
+    let mut cluster = cluster(alloc, TWO_QUEUES)?;
+    for (index, visit) in VISITS.iter().enumerate() {
+        make_call(alloc, &mut cluster, &visit.call)?;
+        if !propose_alike(alloc, &cluster)? {
+            return None;
+        }
+        if chosen(&cluster) != visit.chosen {
+            return Some(index);
+        }
+    }
+    Some(VISITS.len())
+}
+
+#[test]
+fn asks_for_what_is_not_there_wait_for_it(rt: HostRuntime) {
+    assert!(rt; visited(rt.alloc()) == Some(14));
 }

@@ -18,7 +18,7 @@ pub returns-then-settings-count-clause-err : goal.returns-then-settings-count-cl
 returns-then-settings-count-clause-err g c =
     let rows = c.tree-tree.result.now in
     let queues = ap queues_of c.tree-tree.ensures.rows ∙ c.tree-tree.ensures.queues in
-    let count = c.count.ensures ∙ ap (λ (t : AppTable). length t.active) c.apps.ensures.table in
+    let count = c.count.ensures ∙ ap (λ (t : AppTable). length t.active) c.apps-apps.ensures.table in
     let limit = c.settings.ensures.apps in
     let full = c.if-settings-count.true in
     rw c.as_bytes.ensures.value at (is_full c.args.cluster.now.flat rows c.as_bytes.result.now c.in-Leaf.position.items queues c.in-Leaf.ensures.found.0 c.in-Leaf.ensures.found.1 (sym c.running.ensures ∙ c.if-not-running.false) (omega (arith, count, limit, full)))
@@ -27,10 +27,10 @@ pub returns-then-next-ge-NUMBER_END-clause-err : goal.returns-then-next-ge-NUMBE
 returns-then-next-ge-NUMBER_END-clause-err g c =
     let rows = c.tree-tree.result.now in
     let queues = ap queues_of c.tree-tree.ensures.rows ∙ c.tree-tree.ensures.queues in
-    let count = c.count.ensures ∙ ap (λ (t : AppTable). length t.active) c.apps.ensures.table in
+    let count = c.count.ensures ∙ ap (λ (t : AppTable). length t.active) c.apps-apps.ensures.table in
     let limit = c.settings.ensures.apps in
     let room = c.if-settings-count.false in
-    let next = c.next.ensures ∙ ap (λ (t : AppTable). t.next) c.apps-2.ensures.table in
+    let next = c.next.ensures ∙ ap (λ (t : AppTable). t.next) c.apps-apps.ensures.table in
     let spent = c.if-next-ge-NUMBER_END.true in
     rw c.as_bytes.ensures.value at (is_spent c.args.cluster.now.flat rows c.as_bytes.result.now c.in-Leaf.position.items queues c.in-Leaf.ensures.found.0 c.in-Leaf.ensures.found.1 (sym c.running.ensures ∙ c.if-not-running.false) (omega (arith, count, limit, room)) (omega (arith, next, spent)))
 
@@ -38,21 +38,21 @@ pub returns-clause-ok : goal.returns-clause-ok
 returns-clause-ok g c =
     let rows = c.tree-tree.result.now in
     let queues = ap queues_of c.tree-tree.ensures.rows ∙ c.tree-tree.ensures.queues in
-    let count = c.count.ensures ∙ ap (λ (t : AppTable). length t.active) c.apps.ensures.table in
+    let count = c.count.ensures ∙ ap (λ (t : AppTable). length t.active) c.apps-apps.ensures.table in
     let limit = c.settings.ensures.apps in
     let room = c.if-settings-count.false in
-    let next = c.next.ensures ∙ ap (λ (t : AppTable). t.next) c.apps-2.ensures.table in
+    let next = c.next.ensures ∙ ap (λ (t : AppTable). t.next) c.apps-apps.ensures.table in
     let left = c.if-next-ge-NUMBER_END.false in
     rw c.as_bytes.ensures.value at (is_free c.args.cluster.now.flat rows c.as_bytes.result.now c.in-Leaf.position.items queues c.in-Leaf.ensures.found.0 c.in-Leaf.ensures.found.1 (sym c.running.ensures ∙ c.if-not-running.false) (omega (arith, count, limit, room)) (omega (arith, next, left)))
 
 pub settings-requires : goal.settings-requires
 settings-requires g c = search limits_in_cluster
 
-pub apps-requires : goal.apps-requires
-apps-requires g c = search apps_fit
-
-pub apps-requires-2 : goal.apps-requires-2
-apps-requires-2 g c = search apps_fit
+pub apps-apps-requires : goal.apps-apps-requires
+apps-apps-requires g c = search apps_fit
 
 pub find-requires : goal.find-requires
 find-requires g c = tree_fits _ c.tree-tree.ensures.resources
+
+pub tree-tree-requires : goal.tree-tree-requires
+tree-tree-requires g c = (search, tree_fits _ c.apps-apps.ensures.resources)

@@ -1,3 +1,4 @@
+use Rattle.cap_commit.proofs.Fitting.{apps_fit}
 use Rattle.cap_trackers.proofs.Prelude.{tree_fits, IsAt}
 use Rattle.cap_trackers.proofs.Answering.{state_is}
 use Rattle.cap_trackers.proofs.queue_calls.set_queue_state.Goals.{in-Leaf, in-Parent}
@@ -22,3 +23,9 @@ returns-clause-replies g c =
 
 pub find-requires : goal.find-requires
 find-requires g c = tree_fits _ c.tree.ensures.resources
+
+pub apps-requires : goal.apps-requires
+apps-requires g c = search apps_fit
+
+pub tree-requires : goal.tree-requires
+tree-requires g c = (search, tree_fits _ c.apps.ensures.resources)

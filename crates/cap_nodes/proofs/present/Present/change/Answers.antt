@@ -21,13 +21,13 @@ change-requires g c =
     (omega arith, (omega arith, of_found (MayChange c.args.change) _ c.in-Some.load.now at (rw (← c.self.view_is) at c.requires)))
 
 pub invariant_of-self-2 : goal.invariant_of-self-2
-invariant_of-self-2 g c = (changed c.self.inside.loads.entries (c.get_mut.follows.lender c.change.new.self).entries c.self.inside.next c.args.number c.self.inside.hosts (changed_by c.args.change) (keeps c.args.change) c.in-Some.load.now c.change.new.self c.self.invariant c.in-Some.ensures.value c.change.ensures.load (c.get_mut.follows.holds c.change.new.self).0).present
+invariant_of-self-2 g c = (changed c.self.inside.loads.entries (c.get_mut.follows.lender c.change.new.self).entries c.self.inside.next c.self.inside.places c.self.inside.greatest c.self.invariant c.args.number (changed_by c.args.change) (keeps c.args.change) c.in-Some.load.now c.change.new.self c.in-Some.ensures.value c.change.ensures.load (c.get_mut.follows.holds c.change.new.self).0).table
 
 pub returns-clause-loads : goal.returns-clause-loads
 returns-clause-loads g c =
     rw (← c.self.view_is)
     (ap (λ (xs : List Load). let t : LoadTable = record { loads = xs; next = c.self.inside.next } in t)
-    (changed c.self.inside.loads.entries (c.get_mut.follows.lender c.change.new.self).entries c.self.inside.next c.args.number c.self.inside.hosts (changed_by c.args.change) (keeps c.args.change) c.in-Some.load.now c.change.new.self c.self.invariant c.in-Some.ensures.value c.change.ensures.load (c.get_mut.follows.holds c.change.new.self).0).values)
+    (changed c.self.inside.loads.entries (c.get_mut.follows.lender c.change.new.self).entries c.self.inside.next c.self.inside.places c.self.inside.greatest c.self.invariant c.args.number (changed_by c.args.change) (keeps c.args.change) c.in-Some.load.now c.change.new.self c.in-Some.ensures.value c.change.ensures.load (c.get_mut.follows.holds c.change.new.self).0).values)
 
 pub returns-clause-count : goal.returns-clause-count
 returns-clause-count g c =
