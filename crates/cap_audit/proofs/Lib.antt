@@ -1,3 +1,7 @@
 mod Prelude
 pub mod Truth
 pub mod Pieces
+pub mod Blanks
+pub mod Onwards
+pub mod Steps
+pub mod Faults

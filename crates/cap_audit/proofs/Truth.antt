@@ -1,6 +1,5 @@
 -- Lines that are true, and one more.
-use Rattle.cap_model.specs.declared.event.Event.TheVariants as event
-use Rattle.cap_audit.proofs.Prelude.{Reply, ReplyWith, AllocateNumbers, Request, Replies, RepliesInFull, full_reply, call_words, ◌≡◌, ◌⊎◌, ℕ, List, [], ◌∷◌, ◌++◌, Option, None, Some, false, inl, inr, refl, sym, ap, ◌∙◌, subst, map, append_assoc, append-nil, flat_map-append, map-append, flat_map, resources, Run, Step, Flat, Event, ClusterState, ended, event_words, property_words, Adds, AreTrue, Begins, Enters, Goes, IsOpened, IsOpenedBy, IsTrueFile, Makes, Passes, PlaysLine, PlaysOn, Spells, StandsAt, StandsOn, settings_text, start, Auditor, Place}
+use Rattle.cap_audit.proofs.Prelude.{◌≡◌, ℕ, List, [], ◌∷◌, ◌++◌, Option, None, Some, false, inl, inr, refl, sym, ap, ◌∙◌, subst, map, append_assoc, append-nil, flat_map-append, map-append, resources, Run, Step, Flat, Event, ClusterState, ended, property_words, Adds, AreTrue, Begins, Enters, Goes, IsLineOf, IsOpened, IsOpenedBy, IsTrueFile, Passes, PlaysLine, PlaysOn, Spells, StandsAt, StandsOn, StartsAnew, settings_text, start, Auditor, Place}
 
 run_one : (events : List (Event resources)) (event : Event resources) (a b c : Flat resources) → Run a events b → Step b event c → Run a (events ++ event ∷ []) c
 run_one [] event a b c e step = (c, subst (λ (x : Flat resources). Step x event c) (sym e) step, refl)
@@ -21,7 +20,7 @@ spells_pass (l ∷ lines) line events p q r spelled passes = (
 )
 
 -- an entry stands behind the lines
-spells_enter : (lines : List (List ℕ)) (line : List ℕ) (events : List (Event resources)) (event : Event resources) (p q r : Place) → Spells p lines events q → Enters q r → line ≡ event_words event → Spells p (lines ++ line ∷ []) (events ++ event ∷ []) r
+spells_enter : (lines : List (List ℕ)) (line : List ℕ) (events : List (Event resources)) (event : Event resources) (p q r : Place) → Spells p lines events q → Enters q r → IsLineOf line event → Spells p (lines ++ line ∷ []) (events ++ event ∷ []) r
 spells_enter [] line events event p q r spelled enters is = (
   r,
   inr (event, [], ap (λ (es : List (Event resources)). es ++ event ∷ []) spelled.0, subst (λ (x : Place). Enters x r) spelled.1 enters, is, (refl, refl)),
@@ -117,11 +116,9 @@ adds_line line property {a} {b} is adds = λ lines stands. add_at lines line pro
 pub ends : (lines : List (List ℕ)) (a b : Auditor) → StandsOn lines a → Begins a b → b.place.inside ≡ false → IsTrueFile lines
 ends lines a b stands is outside = (b.place, is.now.flat, begins lines a b stands is, outside)
 
--- a call that was made, and the line that spells it
-pub makes_call : (old new : Flat resources) (by : ℕ) (request : Request resources) (given : ReplyWith resources AllocateNumbers) (view : Reply resources) (line before words : List ℕ) →
-    RepliesInFull old request given new → view ≡ full_reply new given → before ≡ [] → words ≡ before ++ call_words by request view → line ≡ words → Makes line old new
-makes_call old new by request given view line before words replies is none put same = (
-  event.Call by request view,
-  same ∙ put ∙ ap (λ (b : List ℕ). b ++ call_words by request view) none,
-  subst (λ (r : Reply resources). Replies old request r new) (sym is) replies,
-)
+-- an audit that has played nothing stands behind no line
+stands_at_none : (p : Place) (text : List ℕ) (cluster : Option (ClusterState resources)) → cluster ≡ None → p ≡ start → text ≡ [] → StandsAt [] p text cluster
+stands_at_none p text cluster none at empty = subst (λ (o : Option (ClusterState resources)). StandsAt [] p text o) (sym none) (at, ([], refl, empty))
+
+pub stands_anew : (a : Auditor) → StartsAnew a → StandsOn [] a
+stands_anew a anew = stands_at_none a.place a.settings.items a.cluster anew.none anew.place anew.text

@@ -1,12 +1,18 @@
 -- What the lines of an audit file spell, and when they are true.
-use Rattle.std.specs.Prelude.{◌≡◌, ◌⊎◌, ℕ, suc, List, [], ◌∷◌, ◌++◌, map, Option, None, Some, true, false}
+use Rattle.std.specs.Prelude.{◌≡◌, ◌⊎◌, ℕ, ◌<◌, ◌^◌, suc, List, [], ◌∷◌, ◌++◌, map, Option, None, Some, true, false}
 use Rattle.std.specs.List.{flat_map}
+use Rattle.cap_vector.specs.Vector.{IsResource}
 use Rattle.cap_base.specs.Limits.{resources}
 use Rattle.cap_base.specs.Settings.{Settings}
 use Rattle.cap_base.specs.properties.First.{settings_in}
 use Rattle.cap_model.specs.Flat.{Flat, opened_cluster}
-use Rattle.cap_model.specs.Events.{Run, Step}
+use Rattle.cap_model.specs.Admission.{NodeProposal}
+use Rattle.cap_model.specs.News.{Reply}
+use Rattle.cap_model.specs.Events.{Run, Step, grant_proposal, is_no_memory, reserve_proposal}
+use Rattle.cap_model.specs.declared.request.Request.{Request}
 use Rattle.cap_model.specs.declared.event.Event.{Event}
+use Rattle.cap_model.specs.declared.event.Event.TheVariants as event
+use Rattle.cap_grammar.specs.Spelling.{FitsRequest}
 use Rattle.cap_commit.specs.ClusterState.{ClusterState}
 use Rattle.cap_journal.specs.Lines.{closed_words, ended, epoch_words, event_words, property_words}
 use Rattle.cap_audit.specs.declared.auditor.Auditor.{Auditor}
@@ -49,6 +55,33 @@ pub record Enters (old new : Place) : Type 0 where
   pub inside : old.inside ≡ true
   pub now : new ≡ record old { entries = suc old.entries }
 
+-- ---- the line of an entry
+
+-- the numbers of a proposal are within the bounds of their types
+pub record FitsProposal (p : NodeProposal) : Type 0 where
+  pub app_fits : p.app < 2 ^ 64
+  pub priority_fits : p.key.priority < 2 ^ 32
+  pub key_fits : p.key.request < 2 ^ 64
+  pub node_fits : p.node < 2 ^ 64
+  pub resource_fits : IsResource resources p.resource
+
+-- the connection's number is within its bounds, a message of version 2 spells the request, and the reply is not want of memory
+pub record FitsCall (by : ℕ) (request : Request resources) (reply : Reply resources) : Type 0 where
+  pub by_fits : by < 2 ^ 32
+  pub request_fits : FitsRequest 2 request
+  pub answered : is_no_memory reply ≡ false
+
+-- an event that a line can spell
+abbrev pub FitsEvent : Event resources → Type 0
+FitsEvent (event.Call by request reply) = FitsCall by request reply
+FitsEvent (event.Grant container) = (container.number < 2 ^ 64) × FitsProposal (grant_proposal container)
+FitsEvent (event.Reserve reservation) = FitsProposal (reserve_proposal reservation)
+
+-- the line is the one spelling of the event
+pub record IsLineOf (line : List ℕ) (event : Event resources) : Type 0 where
+  pub line_is : line ≡ event_words event
+  pub fits : FitsEvent event
+
 -- ---- lines
 
 -- the lines between two places spell these events
@@ -56,7 +89,7 @@ abbrev pub Spells : Place → List (List ℕ) → List (Event resources) → Pla
 Spells old [] events new = (events ≡ []) × (new ≡ old)
 Spells old (line ∷ lines) events new = (mid : Place) ×
     ((Passes line old mid × Spells mid lines events new)
-    ⊎ ((event : Event resources) × (rest : List (Event resources)) × (events ≡ event ∷ rest) × Enters old mid × (line ≡ event_words event) × Spells mid lines rest new))
+    ⊎ ((event : Event resources) × (rest : List (Event resources)) × (events ≡ event ∷ rest) × Enters old mid × IsLineOf line event × Spells mid lines rest new))
 
 -- lines that are true so far: property lines, and then the lines of epochs, whose events are one run from the opening of the settings
 pub record AreTrue (lines : List (List ℕ)) (place : Place) (closing : Flat resources) : Type 0 where
@@ -77,7 +110,7 @@ IsTrueFile lines = (place : Place) × (closing : Flat resources) × AreTrue line
 
 -- the line spells an event that is a step
 abbrev pub Makes : List ℕ → Flat resources → Flat resources → Type 0
-Makes line old new = (event : Event resources) × (line ≡ event_words event) × Step old event new
+Makes line old new = (event : Event resources) × IsLineOf line event × Step old event new
 
 -- one line was played on the cluster
 abbrev pub PlaysOn : List ℕ → Place → Place → Flat resources → Flat resources → Type 0
@@ -87,6 +120,12 @@ PlaysOn line place place' old new = (Passes line place place' × (new ≡ old)) 
 abbrev pub StandsAt : List (List ℕ) → Place → List ℕ → Option (ClusterState resources) → Type 0
 StandsAt lines place text None = (place ≡ start) × ((properties : List (List ℕ)) × (lines ≡ map property_words properties) × (text ≡ settings_text properties))
 StandsAt lines place text (Some cluster) = AreTrue lines place cluster.flat
+
+-- an audit that has played nothing
+pub record StartsAnew (a : Auditor) : Type 0 where
+  pub place : a.place ≡ start
+  pub none : a.cluster ≡ None
+  pub text : a.settings.items ≡ []
 
 -- an audit stands behind these lines
 abbrev pub StandsOn : List (List ℕ) → Auditor → Type 0
@@ -115,10 +154,18 @@ pub record Begins (old new : Auditor) : Type 0 where
   pub stands : new.cluster ≡ Some now
   pub opened : IsOpened old.settings.items old.cluster now.flat
 
--- one line was played on the cluster that stands
+-- whatever the line leads to, it is this place and this cluster; and it leads nowhere
+abbrev pub IsOnlyWay : List ℕ → Place → Place → Flat resources → Flat resources → Type 0
+IsOnlyWay line place place' old new = (next : Place) (after : Flat resources) → PlaysOn line place next old after → (next ≡ place') × (after ≡ new)
+
+abbrev pub IsNoWay : List ℕ → Place → Flat resources → Type 0
+IsNoWay line place old = (next : Place) (after : Flat resources) → PlaysOn line place next old after → ⊥
+
+-- one line was played on the cluster that stands, in the one way that it can be
 pub record Goes (line : List ℕ) (old new : Auditor) : Type 0 where
   pub was : ClusterState resources
   pub now : ClusterState resources
   pub stood : old.cluster ≡ Some was
   pub stands : new.cluster ≡ Some now
   pub plays : PlaysOn line old.place new.place was.flat now.flat
+  pub alone : IsOnlyWay line old.place new.place was.flat now.flat

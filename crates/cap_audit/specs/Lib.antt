@@ -1,2 +1,4 @@
 pub mod Audit
+pub mod Onward
 pub mod Input
+pub mod Reading

@@ -1,6 +1,8 @@
 //! An audit under way: the settings, the cluster that they open, and where it stands (`Auditor`).
-ghost use Rattle.std.specs.Prelude.{◌≡◌, OnOk, IfOk, [], true, false, is_some};
-ghost use Rattle.cap_audit.specs.Audit.{Adds, Begins, Goes, IsOpenedBy, PlaysLine, StandsOn};
+ghost use Rattle.std.specs.Prelude.{◌≡◌, OnOk, IfErr, IfOk, [], None, true, false, is_some};
+ghost use Rattle.cap_base.specs.properties.First.{settings_in};
+ghost use Rattle.cap_audit.specs.Audit.{Adds, Begins, Goes, IsOpenedBy, PlaysLine, StartsAnew};
+ghost use Rattle.cap_audit.specs.Onward.{IfFalse, IsNoWayFrom, LeadsNowhere, LeadsOn, MayGoOn, OpensNone, Tells};
 
 use crate::counts::Counts;
 use crate::entries::follow;
@@ -42,7 +44,7 @@ impl Drop for Auditor {
 impl Auditor {
     /// Before the first line.
     pub(crate) fn new(alloc: Global) -> Auditor
-        ensures { StandsOn [] result }
+        ensures { StartsAnew result }
     {
         Auditor {
             alloc,
@@ -57,7 +59,9 @@ impl Auditor {
 
     /// Plays one line.
     pub(crate) fn play(&mut self, line: &[u8]) -> Result<(), Stop>
-        ensures { OnOk result (PlaysLine line.now self.old self.new) }
+        ensures plays { OnOk result (PlaysLine line.now self.old self.new) }
+        ensures only { Tells result
+            (LeadsOn line.now self.old self.new) (LeadsNowhere line.now self.old) }
     {
         self.lines = self.lines.saturating_add(1);
         if let Some(property) = line.strip_prefix(b"conf ") {
@@ -78,7 +82,8 @@ impl Auditor {
 
     /// One more property line, which may stand before all epochs alone.
     fn add(&mut self, property: &[u8]) -> Result<(), Stop>
-        ensures { OnOk result (Adds property.now self.old self.new) }
+        ensures adds { OnOk result (Adds property.now self.old self.new) }
+        ensures late { IfErr result (λ stop. IfFalse stop (is_some self.old.cluster ≡ true)) }
     {
         if self.cluster.is_some() {
             return Err(Stop::False(Why::LateProperty));
@@ -90,7 +95,8 @@ impl Auditor {
 
     /// Reads the settings and opens the cluster by them, where that was not done before.
     fn begin(&mut self) -> Result<(), Stop>
-        ensures { OnOk result (Begins self.old self.new) }
+        ensures begins { OnOk result (Begins self.old self.new) }
+        ensures none { IfErr result (λ stop. IfFalse stop (OpensNone self.old)) }
     {
         if self.cluster.is_some() {
             return Ok(());
@@ -107,7 +113,8 @@ impl Auditor {
     /// Plays one line on the cluster.
     fn follow(&mut self, line: &[u8]) -> Result<(), Stop>
         requires { is_some self.old.cluster ≡ true }
-        ensures { OnOk result (Goes line.now self.old self.new) }
+        ensures goes { OnOk result (Goes line.now self.old self.new) }
+        ensures none { IfErr result (λ stop. IfFalse stop (IsNoWayFrom line.now self.old)) }
     {
         let Some(cluster) = &mut self.cluster else {
             unreachable!()
@@ -123,7 +130,9 @@ impl Auditor {
 
     /// What is known at the end of the file: it does not end in an epoch.
     pub(crate) fn end(&mut self) -> Result<(), Stop>
-        ensures { OnOk result (Begins self.old self.new × (self.new.place.inside ≡ false)) }
+        ensures ends { OnOk result
+            (Begins self.old self.new × (self.new.place.inside ≡ false)) }
+        ensures none { IfErr result (λ stop. IfFalse stop (MayGoOn [] self.old → ⊥)) }
     {
         self.lines = self.lines.saturating_add(1);
         match self.begin() {
@@ -159,7 +168,8 @@ impl Auditor {
 
 /// Opens a cluster by the settings.
 fn open(alloc: Global, text: &[u8]) -> Result<Cluster<RESOURCES>, Stop>
-    ensures { IfOk result (λ cluster. IsOpenedBy text.now cluster.flat) }
+    ensures opens { IfOk result (λ cluster. IsOpenedBy text.now cluster.flat) }
+    ensures none { IfErr result (λ stop. IfFalse stop (settings_in text.now ≡ None)) }
 {
     match read_config(alloc, text) {
         Ok(config) => match Cluster::from_config(alloc, &config) {

@@ -1,10 +1,12 @@
 //! The lines of an input, played one after the other, and what is said of them (`audit`).
-ghost use Rattle.std.specs.Prelude.{◌≡◌, ◌<◌, ◌++◌, [], length, true, IfOk, OnOk};
+ghost use Rattle.std.specs.Prelude.{◌≡◌, ℕ, ◌<◌, ◌++◌, List, [], length, true, Some, IfErr, IfOk, OnOk};
 ghost use Rattle.std.specs.Str.Lines.{lines};
 ghost use Rattle.cap_text.specs.Pieces.{lacks};
-ghost use Rattle.cap_session.specs.Counted.{state_of, CanCount};
-ghost use Rattle.cap_audit.specs.Audit.{IsTrueFile, PlaysLine, StandsOn};
-ghost use Rattle.cap_audit.specs.Input.{ForPlayed, GaveWholeText, HasEnded, IsPlayed, IsRead, after_bytes, whole_line};
+ghost use Rattle.cap_session.specs.Counted.{inner_of, state_of, CanCount};
+ghost use Rattle.cap_audit.specs.declared.stop.Stop.TheVariants.{Input as no_input};
+ghost use Rattle.cap_audit.specs.Audit.{IsTrueFile, PlaysLine, StartsAnew};
+ghost use Rattle.cap_audit.specs.Onward.{IfFalse, IsFalseBeginning, IsFalseText, LeadsNowhere, LeadsOn, Tells};
+ghost use Rattle.cap_audit.specs.Input.{ForPlayed, GaveWholeText, HasEnded, IsFalseInput, IsPlayed, IsRead, after_bytes, whole_line};
 
 use crate::auditor::Auditor;
 use crate::stop::Stop;
@@ -23,8 +25,9 @@ const READS_MAX: u64 = 1 << 32;
 /// Audits the file that the reader gives: plays its lines on the cluster that its settings open, and writes `audited epochs=E
 /// entries=T calls=C grants=G reservations=R`, or `line N: WHY` for the first line that is false. The result is the exit status: 0
 /// where the file is true: its lines spell events that are one run of the cluster; 1 the reader or the writer failed, a reader also
-/// where it was quiet, or where the input did not end within 2^32 reads; 2 a line is false, the settings have a fault, or the file
-/// ends in an epoch; 3 an allocation failed.
+/// where it was quiet, or where the input did not end within 2^32 reads, or before a number of epochs or entries was at its end;
+/// 2 the file is false: a line is, the settings have a fault, or the file ends in an epoch; 3 an allocation failed. No true file is
+/// answered 2, whatever becomes of memory and streams.
 pub fn audit<R: Read, W: Write>(
     alloc: Global,
     reader: &mut Counted<R>,
@@ -35,6 +38,8 @@ pub fn audit<R: Read, W: Write>(
     ensures status { result < 4 }
     ensures is_true { result ≡ 0 → GaveWholeText R.remaining reader.old reader.new
         (λ text. IsTrueFile (lines text)) }
+    ensures is_false { result ≡ 2 → (whole : List ℕ)
+        → R.remaining (inner_of reader.old) ≡ Some whole → ¬ IsTrueFile (lines whole) }
     ensures failed { (state_of writer.old).failures < (state_of writer.new).failures → result ≡ 1 }
 {
     let mut auditor = Auditor::new(alloc);
@@ -49,9 +54,10 @@ fn play_all<R: Read>(
     auditor: &mut Auditor,
 ) -> Result<(), Stop>
     requires reader { CanCount (state_of reader.old) }
-    requires stands { StandsOn [] auditor.old }
-    ensures { OnOk result (GaveWholeText R.remaining reader.old reader.new
+    requires anew { StartsAnew auditor.old }
+    ensures good { OnOk result (GaveWholeText R.remaining reader.old reader.new
         (λ text. IsTrueFile (lines text))) }
+    ensures bad { IfErr result (λ stop. IfFalse stop (IsFalseInput R.remaining reader.old)) }
 {
     let mut chunk = [0u8; CHUNK];
     let mut begun = Vec::new(alloc);
@@ -82,6 +88,7 @@ fn read_piece<'a, R: Read>(
         → HasEnded R.remaining reader.old reader.new) }
     ensures more { IfOk result (λ piece. 0 < length piece.now
         → state_of reader.new ≡ after_bytes (state_of reader.old) piece.now) }
+    ensures failed { IfErr result (λ stop. stop ≡ no_input) }
 {
     match reader.read(chunk) {
         Got::Bytes(n) => Ok(&chunk[..n]),
@@ -96,6 +103,8 @@ fn play_piece(piece: &[u8], begun: &mut Vec<u8>, auditor: &mut Auditor) -> Resul
     ensures begun { OnOk result (lacks 10 begun.new.items ≡ true) }
     ensures good { OnOk result (ForPlayed begun.old.items auditor.old
         (λ text. IsPlayed (text ++ piece.now) begun.new.items auditor.new)) }
+    ensures bad { IfErr result (λ stop. IfFalse stop (ForPlayed begun.old.items auditor.old
+        (λ text. IsFalseBeginning (text ++ piece.now)))) }
 {
     let mut rest = piece;
     while let Some((last, after)) = split_once(rest, b'\n') {
@@ -114,6 +123,9 @@ fn play_ended(last: &[u8], begun: &mut Vec<u8>, auditor: &mut Auditor) -> Result
     ensures cleared { OnOk result (begun.new.items ≡ []) }
     ensures good { OnOk result
         (PlaysLine (whole_line begun.old.items last.now) auditor.old auditor.new) }
+    ensures only { Tells result
+        (LeadsOn (whole_line begun.old.items last.now) auditor.old auditor.new)
+        (LeadsNowhere (whole_line begun.old.items last.now) auditor.old) }
 {
     begun.extend_from_slice(last)?;
     match auditor.play(without_return(begun)) {
@@ -128,7 +140,10 @@ fn play_ended(last: &[u8], begun: &mut Vec<u8>, auditor: &mut Auditor) -> Result
 /// Plays a last line that no line feed ends, if there is one. Settings that no line has read are read now.
 fn play_last(line: &[u8], auditor: &mut Auditor) -> Result<(), Stop>
     requires { lacks 10 line.now ≡ true }
-    ensures { OnOk result (ForPlayed line.now auditor.old (λ text. IsTrueFile (lines text))) }
+    ensures good { OnOk result
+        (ForPlayed line.now auditor.old (λ text. IsTrueFile (lines text))) }
+    ensures bad { IfErr result
+        (λ stop. IfFalse stop (ForPlayed line.now auditor.old IsFalseText)) }
 {
     if line.is_empty() {
         return auditor.end();

@@ -1,5 +1,6 @@
 //! Why a file is audited no further (`Stop`, `Why`).
 ghost use Rattle.std.specs.Prelude.{◌≡◌};
+ghost use Rattle.cap_journal.specs.declared.fault.LineFault.TheVariants.{NoMemory as no_room};
 ghost use Rattle.cap_audit.specs.declared.stop.Stop.TheVariants.{NoMemory as out_of_memory};
 
 use cap_journal::LineFault;
@@ -15,7 +16,7 @@ pub(crate) enum Stop {
     Settings,
     /// An allocation failed.
     NoMemory,
-    /// A read failed, or the input did not end in time.
+    /// A read failed, or the input did not end in time, or before a number of epochs or entries was at its end.
     Input,
     /// A write failed.
     Output,
@@ -55,7 +56,9 @@ impl From<AllocError> for Stop {
 }
 
 /// What a line stops an audit with that can't be written for comparison.
-pub(crate) fn stop_of(fault: LineFault) -> Stop {
+pub(crate) fn stop_of(fault: LineFault) -> Stop
+    ensures { fault ≡ no_room → result ≡ out_of_memory }
+{
     match fault {
         LineFault::NoMemory => Stop::NoMemory,
         LineFault::NoSpelling => Stop::False(Why::NoLine),

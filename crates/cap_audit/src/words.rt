@@ -1,6 +1,7 @@
 //! What is said of a file, and the exit status (`finish`).
 ghost use Rattle.std.specs.Prelude.{◌≡◌, ◌⊎◌, ◌<◌, IsOk};
 ghost use Rattle.cap_session.specs.Counted.{state_of, CanCount};
+ghost use Rattle.cap_audit.specs.Onward.{IsFoundFalse};
 
 use crate::auditor::Auditor;
 use crate::stop::{Stop, Why};
@@ -21,6 +22,7 @@ pub(crate) fn finish<W: Write>(
     requires { CanCount (state_of writer.old) }
     ensures status { result < 4 }
     ensures done { result ≡ 0 → IsOk played }
+    ensures found { result ≡ 2 → IsFoundFalse played }
     ensures failed { (state_of writer.old).failures < (state_of writer.new).failures → result ≡ 1 }
 {
     let said = match played {

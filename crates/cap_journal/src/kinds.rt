@@ -1,5 +1,5 @@
 //! Whether a reply is one to a request of a kind (`is_of_kind`).
-ghost use Rattle.std.specs.Prelude.{◌≡◌, true};
+ghost use Rattle.std.specs.Prelude.{◌≡◌, ◌↔◌, true};
 ghost use Rattle.cap_grammar.specs.Spelling.{IsOfKind};
 
 use cap_base::RESOURCES;
@@ -7,7 +7,7 @@ use cap_model::{Refusal, ReplyView, ReplyWith};
 
 /// Whether a reply is one that a request of this kind may get.
 pub(crate) fn is_of_kind(kind: u8, reply: &ReplyView<'_, RESOURCES>) -> bool
-    ensures { result ≡ true → IsOfKind kind reply.now }
+    ensures { result ≡ true ↔ IsOfKind kind reply.now }
 {
     match reply {
         ReplyWith::Refused(Refusal::BadSettings { .. }) => kind == 11,

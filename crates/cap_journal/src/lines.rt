@@ -1,6 +1,8 @@
 //! Lines of an audit file, put behind what was put before (`put_event`, `put_epoch`, `put_closed`, `put_property`).
-ghost use Rattle.std.specs.Prelude.{◌≡◌, ◌++◌, ◌∷◌, OnOk};
+ghost use Rattle.std.specs.Prelude.{◌≡◌, ◌++◌, ◌∷◌, IfErr, OnOk};
 ghost use Rattle.hex.specs.Hex.{encode_lower};
+ghost use Rattle.cap_grammar.specs.Spelling.{FitsRequest, IsOfKind, kind_of};
+ghost use Rattle.cap_journal.specs.declared.fault.LineFault.TheVariants.{NoMemory as out_of_memory};
 ghost use Rattle.cap_journal.specs.Lines.{call_words, closed_words, epoch_words, event_words, grant_words, property_words, reserve_words};
 
 use crate::fault::LineFault;
@@ -50,8 +52,10 @@ pub fn put_call(
     request: &Request<RESOURCES>,
     reply: &ReplyView<'_, RESOURCES>,
 ) -> Result<(), LineFault>
-    ensures { OnOk result (line.new.items
+    ensures put { OnOk result (line.new.items
         ≡ line.old.items ++ call_words by request.now reply.now) }
+    ensures spelled { FitsRequest 2 request.now → IsOfKind (kind_of request.now) reply.now
+        → IfErr result (λ fault. fault ≡ out_of_memory) }
 {
     let kind = kind(request);
     if !has_spelling(HEAD.version, request) || !is_of_kind(kind, reply) {

@@ -1,4 +1,4 @@
-use Rattle.cap_audit.proofs.Prelude.{◌≡◌, List, ℕ, true, lacks, state_of, CanCount, IsPlayed, IsRead}
+use Rattle.cap_audit.proofs.Prelude.{◌≡◌, List, ℕ, true, lacks, state_of, IsPlayed, IsRead}
 use Rattle.cap_audit.proofs.player.play_all.Given as goal
 
 -- what was read was played but for what is begun, and no read has failed or found the end

@@ -1,5 +1,6 @@
 use Rattle.std.proofs.Common.{◌++◌, refl}
-use Rattle.cap_audit.proofs.Pieces.{ended_line, read_on}
+use Rattle.cap_audit.proofs.Pieces.{ended_line, false_line, read_on}
+use Rattle.cap_audit.proofs.Onwards.{if_false}
 use Rattle.cap_audit.proofs.player.play_piece.Goals as goal
 
 pub loop-last-init : goal.loop-last-init
@@ -11,5 +12,10 @@ loop-last-preserved c = record {
   played = λ text p.
       let before = c.loop-last.invariant.played text p in
       ended_line (text ++ c.args.piece.now) c.loop-last.begun.items c.loop-last.rest.now c.in-Some.last.now c.in-Some.after.now c.play_ended.new.begun.items c.loop-last.auditor c.play_ended.new.auditor
-      before c.in-Some.ensures.found c.loop-last.invariant.clean c.in-Ok.ensures.cleared c.in-Ok.ensures.good;
+      before c.in-Some.ensures.found c.loop-last.invariant.clean c.in-Ok.ensures.cleared c.in-Ok.ensures.good c.in-Ok.ensures.only;
 }
+
+pub returns-in-Err-clause-bad : goal.returns-in-Err-clause-bad
+returns-in-Err-clause-bad c = if_false c.in-Err.stop c.in-Err.ensures.only (λ never. λ text p.
+    let before = c.loop-last.invariant.played text p in
+    false_line (text ++ c.args.piece.now) c.loop-last.begun.items c.loop-last.rest.now c.in-Some.last.now c.in-Some.after.now c.loop-last.auditor before c.in-Some.ensures.found c.loop-last.invariant.clean never)
