@@ -1,7 +1,9 @@
 -- What a replica follows of the journal, and what it makes again.
-use Rattle.cap_shared.proofs.Prelude.{HasMore, ◌≡◌, ℕ, zero, suc, ◌+◌, ◌<◌, ◌≤◌, Bool, true, false, None, Some, List, [], ◌∷◌, ◌++◌, length, refl, ap, sym, ◌∙◌, subst, arith, append_assoc, append-nil, length-append, if◌then◌else◌, step_is_determined, rejected_exactly, reason_of, sight_of, resources, Flat, Step, Request, Reply, Replies, Entry, NotedAnswer, Moment, Entered, Noted, Sitting, Pass, Replays, state_after, NotesBegin, IsNoted, sitting_of}
-use Rattle.std.proofs.Common.{take, drop, get_or, take_all, inl, inr, ◌^◌}
-use Rattle.std.proofs.lemmas.List.{take-append-drop}
+use Rattle.cap_shared.proofs.Prelude.{HasMore, ◌≡◌, ℕ, zero, suc, ◌+◌, ◌<◌, ◌≤◌, Bool, true, false, None, Some, List, [], ◌∷◌, ◌++◌, length, refl, ap, sym, ◌∙◌, subst, arith, append_assoc, append-nil, length-append, if◌then◌else◌, step_is_determined, rejected_exactly, reason_of, sight_of, resources, Flat, Step, Request, Reply, Replies, Entry, NotedAnswer, Moment, Entered, Noted, Sitting, Pass, Replays, state_after, NotesBegin, IsNoted, sitting, sitting_of, ⊎_elim}
+use Rattle.std.proofs.Common.{take, drop, get_or, take_all, inl, inr, ◌^◌, ◌-◌}
+use Rattle.std.specs.Prelude.{IsTrue, IsFalse, ◌↔◌}
+use Rattle.std.proofs.lemmas.Bool.{cases_lt}
+use Rattle.std.proofs.lemmas.List.{drop_all, length-drop, take-append-drop}
 use Rattle.std.proofs.lemmas.List.Prefix.{front_rest}
 use mathlib.Core.List.{IsPrefix}
 use Rattle.cap_model.specs.Admission.{NodeProposal, IsAdmissible}
@@ -17,7 +19,7 @@ use Rattle.cap_model.specs.declared.proposal.Verdict.TheVariants as verdict
 use Rattle.cap_shared.specs.declared.deed.Deed.{Deed}
 use Rattle.cap_shared.specs.declared.deed.Deed.TheVariants as deed
 use Rattle.cap_shared.specs.declared.history.NotedAnswer.TheVariants as answer
-use Rattle.cap_shared.specs.Following.{deeds_of, IsMadeAgain, followed_in, IsReplica, Leads, LeadsOn, Follows, IsNews}
+use Rattle.cap_shared.specs.Following.{deeds_of, IsMadeAgain, followed_in, IsReplica, Leads, LeadsOn, Follows, IsNews, piece_max}
 use Rattle.cap_shared.proofs.Entering.{one_more}
 use Rattle.cap_shared.proofs.Lists.{prefix_self}
 use Rattle.cap_shared.proofs.Pasts.{state_is, leads_to_states}
@@ -72,23 +74,50 @@ same_follows log es old new same more = noted_follows log es old new ([], append
 
 -- the news
 
+length_taken : (n : ℕ) (es : List Entry) → n ≤ length es → length (take n es) ≡ n
+length_taken zero es h = refl
+length_taken (suc n) [] h = absurd (omega arith)
+length_taken (suc n) (e ∷ es) h = ap suc (length_taken n es (omega arith))
+
 new_entries : (log es news : List Entry) → IsPrefix es log → news ≡ drop (length es) log → es ++ news ≡ log
 new_entries log es news p is = ap (λ (l : List Entry). es ++ l) (is ∙ front_rest log es p.0 (sym p.1)) ∙ p.1
 
-pub is_news : (o : Flat resources) (log : List Entry) (d d' s s' : Pass) (x : Sitting) (cluster : Flat resources) (es news : List Entry) → sitting_of s.me.0 ≡ x → Follows es x.past → IsNoted log answer.Copied d d' s s' → Replays o log cluster → length log < 2 ^ 64 → news ≡ drop (length es) log
-    → IsNews o es x (sitting_of s'.me.0) news
-is_news o log d d' s s' x cluster es news is follows m run few new =
+-- a piece that is not all has as many entries as it may have
+taken_many : (n : ℕ) (b : Bool) (k m : ℕ) → (IsTrue b ↔ (k ≤ m + n)) → IsFalse b → n ≤ k - m
+taken_many n b k m whole f = ⊎_elim (λ (l : m + n < k). omega arith) (λ (l : k ≤ m + n). absurd (let t = whole.1 l in cc)) (cases_lt (m + n) k)
+
+pub is_news : (o : Flat resources) (log : List Entry) (d d' s s' : Pass) (x : Sitting) (cluster : Flat resources) (es news : List Entry) (all : Bool) → sitting_of s.me.0 ≡ x → Follows es x.past → IsNoted log answer.Copied d d' s s' → Replays o log cluster → length log < 2 ^ 64
+    → news ≡ take piece_max (drop (length es) log) → (IsTrue all ↔ (length log ≤ length es + piece_max)) → IsNews o es x (sitting_of s'.me.0) news all
+is_news o log d d' s s' x cluster es news all is follows m run few new whole =
+    let left = drop (length es) log in
+    let rest = drop piece_max left in
     let begins : IsPrefix es log = follows_begins log es x.past follows (subst (λ (y : Sitting). NotesBegin log y.past) is m.fits.notes) in
-    let all = new_entries log es news begins new in
-    let count : length es + length news ≡ length log = sym (length-append es news) ∙ ap length all in
+    let parts : news ++ rest ≡ left = ap (λ (l : List Entry). l ++ rest) new ∙ take-append-drop piece_max left in
+    let same : es ++ news ++ rest ≡ log = append_assoc es news rest ∙ ap (λ (l : List Entry). es ++ l) parts ∙ new_entries log es left begins refl in
+    let on : Replays o (es ++ news ++ rest) cluster = subst (λ (l : List Entry). Replays o l cluster) (sym same) run in
+    let at = leads_to_states o cluster (es ++ news) rest on in
+    let count : length left ≡ length log - length es = length-drop (length es) log in
+    let sum : length es + length news + length rest ≡ length log = ap (λ (n : ℕ). n + length rest) (sym (length-append es news)) ∙ sym (length-append (es ++ news) rest) ∙ ap length same in
     record {
-      leads = record {
-        cluster = cluster;
-        replays = subst (λ (l : List Entry). Replays o l cluster) (sym all) run;
-        fits = subst (λ (n : ℕ). n < 2 ^ 64) (sym count) few;
-      };
-      noted = one_more s s' x (Noted log answer.Copied) (Noted (es ++ news) answer.Copied) is m.sits (ap (λ (l : List Entry). Noted l answer.Copied) (sym all));
+      rest = rest;
+      leads = record { cluster = state_after o (es ++ news); replays = at.0; fits = omega arith };
+      noted = one_more s s' x (Noted log answer.Copied) (Noted (es ++ news ++ rest) answer.Copied) is m.sits (ap (λ (l : List Entry). Noted l answer.Copied) (sym same));
+      copied = (cluster, on);
+      all = λ t. (let l = whole.0 t in drop_all piece_max left (omega arith));
+      many = λ f. (let l = taken_many piece_max all (length log) (length es) whole f in ap length new ∙ length_taken piece_max left (omega arith));
     }
+
+-- where the news are all, what is noted are the entries that were followed and the news
+pub all_noted : (o : Flat resources) (es news : List Entry) (old new : Sitting) (all : Bool) → IsNews o es old new news all → IsTrue all → HasMore old new (Noted (es ++ news) answer.Copied ∷ [])
+all_noted o es news old new all is t =
+    is.noted ∙ ap (λ (l : List Entry). sitting old.seat (old.past ++ Noted l answer.Copied ∷ [])) (ap (λ (l : List Entry). es ++ news ++ l) (is.all t) ∙ append-nil (es ++ news))
+
+-- what a replica has made of a piece of news, it follows
+pub piece_follows : (o : Flat resources) (log es news : List Entry) (old new : Sitting) (all : Bool) → IsNews o es old new news all → IsPrefix log (es ++ news) → Follows log new.past
+piece_follows o log es news old new all is p = noted_follows log (es ++ news ++ is.rest) old new (prefix_then log (es ++ news) (es ++ news ++ is.rest) p (is.rest, refl)) is.noted
+
+pub caught_up_follows : (o : Flat resources) (log es news : List Entry) (old new : Sitting) (all : Bool) → IsNews o es old new news all → log ≡ es ++ news → Follows log new.past
+caught_up_follows o log es news old new all is same = piece_follows o log es news old new all is ([], append-nil log ∙ same)
 
 -- making again
 
@@ -177,6 +206,10 @@ all_followed log news n all = ap (λ (l : List Entry). log ++ l) (take_all n new
 pub some_followed : (log news : List Entry) (n : ℕ) → IsPrefix (log ++ take n news) (log ++ news)
 some_followed log news n = (drop n news, append_assoc log (take n news) (drop n news) ∙ ap (λ (l : List Entry). log ++ l) (take-append-drop n news))
 
+-- with as many as the journal has at most, the news are all that is left of it
+pub all_left : (journal news : List Entry) (most at n : ℕ) → news ≡ take most (drop at journal) → length journal ≤ most → at ≡ n → news ≡ drop n journal
+all_left journal news most at n is few same = is ∙ take_all most (drop at journal) (let l = length-drop at journal in omega arith) ∙ ap (λ (k : ℕ). drop k journal) same
+
 -- with all entries of a journal that it has followed the first of, a replica is where the journal leads
 pub followed_whole : (o cluster closing : Flat resources) (es news journal : List Entry) → IsPrefix es journal → news ≡ drop (length es) journal → Replays o journal closing → Replays o (es ++ news) cluster → cluster ≡ closing
 followed_whole o cluster closing es news journal p is run on =
@@ -199,11 +232,6 @@ same_length es log (x ∷ t) e n = let c = length-append es (x ∷ t) in let d =
 
 pub follows_all : (log es : List Entry) (ms : List Moment) → Follows es ms → NotesBegin log ms → length es ≡ length log → es ≡ log
 follows_all log es ms follows begin n = let p = follows_begins log es ms follows begin in same_length es log p.0 p.1 n
-
-length_taken : (n : ℕ) (es : List Entry) → n ≤ length es → length (take n es) ≡ n
-length_taken zero es h = refl
-length_taken (suc n) [] h = absurd (omega arith)
-length_taken (suc n) (e ∷ es) h = ap suc (length_taken n es (omega arith))
 
 -- a replica that has made again the first so many of the news
 module _ (items items' : List (List Entry × ℕ)) (news : List Entry) (n : ℕ) (more : items' ≡ items ++ (news, n) ∷ []) where

@@ -1,5 +1,5 @@
 -- What a seat and the desk keep as the journal grows.
-use Rattle.cap_shared.proofs.Prelude.{◌≡◌, ℕ, suc, ◌+◌, ◌<◌, ◌≤◌, ◌==◌, Bool, true, false, List, [], ◌∷◌, ◌++◌, length, refl, ap, sym, ◌∙◌, subst, arith, length-append, if◌then◌else◌, Me, TableId, resources, Flat, after_event, Step, Event, step_is_determined, Entry, Receipt, NotedAnswer, Moment, Entered, Noted, Mark, Sitting, View, Replays, state_after, receipt_for, seat_entries, receipts_in, position_of, start_of, end_of, end_after, Rises, NoteHolds, NotesHold, IsBy, TagsBelow, AllHonest, keeper, sitter, sitting, sitting_of, NotesBegin, Fits, IsSeat, IsDesk, IsShown, Option, Some, None, ShownLast, Pass, IsNoted, IsEntered, JournalsLeadToStates}
+use Rattle.cap_shared.proofs.Prelude.{◌≡◌, ℕ, suc, ◌+◌, ◌<◌, ◌≤◌, ◌==◌, Bool, true, false, List, [], ◌∷◌, ◌++◌, length, refl, ap, sym, ◌∙◌, subst, arith, length-append, if◌then◌else◌, Me, TableId, resources, Flat, after_event, Step, Event, step_is_determined, Entry, Receipt, NotedAnswer, Moment, Entered, Noted, Mark, Sitting, View, Replays, state_after, receipt_for, seat_entries, receipts_in, position_of, start_of, end_of, end_after, Rises, NoteHolds, NotesHold, IsBy, TagsBelow, AllHonest, keeper, sitter, sitting, sitting_of, NotesBegin, Fits, IsSeat, IsDesk, Pass, IsNoted, IsEntered, JournalsLeadToStates}
 use mathlib.Core.List.{IsPrefix}
 use Rattle.cap_model.specs.declared.event.Event.TheVariants as event
 use Rattle.cap_shared.proofs.Lists.{receipts_in-told, receipts_in-noted}
@@ -108,16 +108,11 @@ module _ (T : TableId) (o : Flat resources) (limit seats n : ℕ) (rs : List Rec
       } in
       subst (λ (m : Me Mark View). IsSeat T o limit seats n rs' at' m) (sym me_is) new
 
--- a snapshot shows no later cluster
-shown_before : (old new : Flat resources) (n m : ℕ) (shown : Option ShownLast) → n < m → IsShown old n shown → IsShown new m shown
-shown_before old new n m None less h = tt
-shown_before old new n m (Some last) less h = (omega (arith, h.0), λ at. absurd (omega (arith, h.0)))
-
 -- the desk after an entry
-pub desk_entered : (T : TableId) (o : Flat resources) (limit seats : ℕ) (s t : Flat resources) (log log' : List Entry) (at at' : TableId) (me me' : Me Mark View) (bound room room' : ℕ) (shown : Option ShownLast) (e : Entry)
-    → IsDesk T o limit seats s log at me bound room shown → Step s e.event t → (e.seat < seats) × IsBy e.seat e.event → length log < bound → log' ≡ log ++ e ∷ [] → at' ≡ at → me' ≡ (keeper log', []) → room' ≡ room
-    → IsDesk T o limit seats t log' at' me' bound room' shown
-desk_entered T o limit seats s t log log' at at' me me' bound room room' shown e h step below less log_is same me_is room_is =
+pub desk_entered : (T : TableId) (o : Flat resources) (limit seats : ℕ) (s t : Flat resources) (log log' : List Entry) (at at' : TableId) (me me' : Me Mark View) (bound room room' : ℕ) (e : Entry)
+    → IsDesk T o limit seats s log at me bound room → Step s e.event t → (e.seat < seats) × IsBy e.seat e.event → length log < bound → log' ≡ log ++ e ∷ [] → at' ≡ at → me' ≡ (keeper log', []) → room' ≡ room
+    → IsDesk T o limit seats t log' at' me' bound room'
+desk_entered T o limit seats s t log log' at at' me me' bound room room' e h step below less log_is same me_is room_is =
     record {
       same = same ∙ h.same;
       keeps = me_is;
@@ -126,7 +121,6 @@ desk_entered T o limit seats s t log log' at at' me me' bound room room' shown e
       limit_is = h.limit_is;
       fits = omega (arith, ap length log_is ∙ length-append log (e ∷ []));
       room_is = omega arith;
-      shown_is = shown_before s t (length log) (length log') shown (omega (arith, ap length log_is ∙ length-append log (e ∷ []))) h.shown_is;
     }
 
 -- the same from what was added under the lock
@@ -137,10 +131,10 @@ module _ (T : TableId) (o : Flat resources) (limit seats : ℕ) (log : List Entr
   pub entered_seat : (n : ℕ) (rs rs' : List Receipt) (e : Entry) (r : Receipt) → IsSeat T o limit seats n rs s.table_id s.me → IsEntered log e r d d' s s' → position_of r ≡ length log → rs' ≡ rs ++ r ∷ [] → IsSeat T o limit seats n rs' s'.table_id s'.me
   entered_seat n rs rs' e r h m at more = seat_told T o limit seats n rs s.table_id s.me h log m.fits s'.table_id m.seat_table r rs' s'.me at more m.sits
 
-  pub entered_desk : (old new : Flat resources) (bound room room' : ℕ) (shown : Option ShownLast) (e : Entry) (r : Receipt) (log' : List Entry) → IsDesk T o limit seats old log d.table_id d.me bound room shown → IsEntered log e r d d' s s' → Step old e.event new
-      → (e.seat < seats) × IsBy e.seat e.event → length log < bound → log' ≡ log ++ e ∷ [] → room' ≡ room → IsDesk T o limit seats new log' d'.table_id d'.me bound room' shown
-  entered_desk old new bound room room' shown e r log' h m step below less log_is room_is =
-      desk_entered T o limit seats old new log log' d.table_id d'.table_id d.me d'.me bound room room' shown e h step below less log_is m.desk_table (m.keeps ∙ ap (λ (l : List Entry). (keeper l, [])) (sym log_is)) room_is
+  pub entered_desk : (old new : Flat resources) (bound room room' : ℕ) (e : Entry) (r : Receipt) (log' : List Entry) → IsDesk T o limit seats old log d.table_id d.me bound room → IsEntered log e r d d' s s' → Step old e.event new
+      → (e.seat < seats) × IsBy e.seat e.event → length log < bound → log' ≡ log ++ e ∷ [] → room' ≡ room → IsDesk T o limit seats new log' d'.table_id d'.me bound room'
+  entered_desk old new bound room room' e r log' h m step below less log_is room_is =
+      desk_entered T o limit seats old new log log' d.table_id d'.table_id d.me d'.me bound room room' e h step below less log_is m.desk_table (m.keeps ∙ ap (λ (l : List Entry). (keeper l, [])) (sym log_is)) room_is
 
 -- a seat that was answered nothing
 pub seat_fresh : (T : TableId) (o : Flat resources) (limit seats n : ℕ) (rs : List Receipt) (at : TableId) (me : Me Mark View) → at ≡ T → me ≡ (sitter (sitting n []), []) → n < seats → rs ≡ [] → IsSeat T o limit seats n rs at me

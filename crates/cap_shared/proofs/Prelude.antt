@@ -30,7 +30,7 @@ pub use Rattle.cap_shared.specs.Journal.{AllHonest, IsBy, NoteHolds, NotesHold, 
 pub use Rattle.cap_shared.specs.Laws.{JournalsLeadToStates, JournalsStayBounded}
 pub use Rattle.cap_commit.specs.Admission.{taken_back}
 pub use Rattle.cap_commit.specs.Making.{event_of_made}
-pub use Rattle.cap_shared.specs.Parts.{Content, IsDesk, IsSeat, IsShown, report_of}
+pub use Rattle.cap_shared.specs.Parts.{Content, IsDesk, IsSeat, report_of}
 pub use Rattle.cap_shared.specs.Passes.{IsEntered, IsNoted, Pass}
 pub use Rattle.cap_shared.specs.WordRule.{Addition, AllFit, Enters, Fits, Holds, IsAdded, IsCompared, IsOf, Knows, Notes, NotesBegin, Nothing, addition_of, first_view, fresh, head_of, keeper, log_after, nobody, only_first, past_after, rest_of, sits_after, sitter, sitting, sitting_of, times, total, view_of, view_with, with_guest, without_first}
 pub use Rattle.cap_shared.specs.declared.entry.Entry.{Entry}
@@ -42,4 +42,3 @@ pub use Rattle.cap_shared.specs.declared.history.NotedAnswer.{NotedAnswer}
 pub use Rattle.cap_shared.specs.declared.history.Sitting.{Sitting}
 pub use Rattle.cap_shared.specs.declared.history.View.{View}
 pub use Rattle.cap_commit.specs.declared.made.Made.{Made}
-pub use Rattle.cap_shared.specs.declared.shown.ShownLast.{ShownLast}

@@ -1,5 +1,5 @@
 -- What a replica has followed of the journal, and what is new to it.
-use Rattle.std.specs.Prelude.{◌≡◌, ◌⊎◌, ℕ, ◌+◌, ◌<◌, ◌^◌, List, [], ◌∷◌, ◌++◌, length, map, flat_map, take, if◌then◌else◌}
+use Rattle.std.specs.Prelude.{◌≡◌, ◌⊎◌, ℕ, ◌+◌, ◌<◌, ◌^◌, Bool, IsTrue, IsFalse, List, [], ◌∷◌, ◌++◌, length, map, flat_map, take, if◌then◌else◌}
 use mathlib.Core.List.{IsPrefix}
 use Rattle.cap_base.specs.Limits.{resources}
 use Rattle.cap_model.specs.Flat.{Flat}
@@ -58,7 +58,16 @@ Follows log [] = log ≡ []
 Follows log (Entered receipt ∷ ms) = Follows log ms
 Follows log (Noted entries a ∷ ms) = IsPrefix log entries ⊎ Follows log ms
 
--- one copy of the cluster is noted, whose entries are those that were followed and the news
-pub record IsNews (opening : Flat resources) (log : List Entry) (old new : Sitting) (news : List Entry) : Type 0 where
+-- how many entries a piece of news has at most
+abbrev pub piece_max : ℕ
+piece_max = 256
+
+-- One copy of the cluster is noted, whose entries are those that were followed, the news and the rest, and lead to a cluster. Where these are
+-- all news there is no rest, and else they are as many as a piece has at most.
+pub record IsNews (opening : Flat resources) (log : List Entry) (old new : Sitting) (news : List Entry) (are_all : Bool) : Type 0 where
+  pub rest : List Entry
   pub leads : LeadsOn opening log news
-  pub noted : HasMore old new (Noted (log ++ news) answer.Copied ∷ [])
+  pub noted : HasMore old new (Noted (log ++ news ++ rest) answer.Copied ∷ [])
+  pub copied : Leads opening (log ++ news ++ rest)
+  pub all : IsTrue are_all → rest ≡ []
+  pub many : IsFalse are_all → length news ≡ piece_max

@@ -1,14 +1,9 @@
 -- What the types of this crate keep.
-use Rattle.std.specs.Prelude.{◌≡◌, ℕ, ◌<◌, ◌≤◌, List, [], Option, Some, None, length}
-use Rattle.std.specs.Arc.{arc_value}
+use Rattle.std.specs.Prelude.{◌≡◌, ℕ, ◌<◌, ◌≤◌, List, [], length}
 use Rattle.atomic_table.specs.Table.{Me}
 use Rattle.atomic_table.specs.Seated.{TableId}
 use Rattle.cap_base.specs.Limits.{resources}
 use Rattle.cap_model.specs.Flat.{Flat}
-use Rattle.cap_model.specs.Sight.{sight_of}
-use Rattle.cap_copy.specs.Snapshot.{sight_in}
-use Rattle.cap_sights.specs.Sights.{ShowTheSame}
-use Rattle.cap_shared.specs.declared.shown.ShownLast.{ShownLast}
 use Rattle.cap_shared.specs.declared.entry.Entry.{Entry}
 use Rattle.cap_shared.specs.declared.entry.Receipt.{Receipt}
 use Rattle.cap_shared.specs.declared.history.Mark.{Mark}
@@ -27,14 +22,8 @@ pub record IsSeat (table : TableId) (opening : Flat resources) (limit seats numb
   pub rises : Rises 0 (sitting_of me.0).past
   pub notes : NotesHold opening limit (sitting_of me.0).past
 
--- the last snapshot that was shown shows the cluster as long as nothing was entered since
-abbrev pub IsShown : Flat resources → ℕ → Option ShownLast → Type 0
-IsShown cluster entries None = Unit {0}
-IsShown cluster entries (Some last) =
-    (last.entries ≤ entries) × (last.entries ≡ entries → ShowTheSame (sight_in resources (arc_value last.shown)) (sight_of cluster))
-
 -- the journal and the cluster under the lock, with the pass that knows the journal
-pub record IsDesk (table : TableId) (opening : Flat resources) (limit seats : ℕ) (cluster : Flat resources) (log : List Entry) (at : TableId) (me : Me Mark View) (bound room : ℕ) (shown : Option ShownLast) : Type 0 where
+pub record IsDesk (table : TableId) (opening : Flat resources) (limit seats : ℕ) (cluster : Flat resources) (log : List Entry) (at : TableId) (me : Me Mark View) (bound room : ℕ) : Type 0 where
   pub same : at ≡ table
   pub keeps : me ≡ (keeper log, [])
   pub run : Replays opening log cluster
@@ -42,7 +31,6 @@ pub record IsDesk (table : TableId) (opening : Flat resources) (limit seats : �
   pub limit_is : bound ≡ limit
   pub fits : length log ≤ bound
   pub room_is : bound ≤ room
-  pub shown_is : IsShown cluster (length log) shown
 
 -- what is seen of the desk: the cluster and the journal
 pub record Content : Type 0 where

@@ -1,9 +1,7 @@
 //! What lies under the lock: the cluster, its journal, and the pass that knows the journal (`Desk`).
-ghost use Rattle.std.specs.Prelude.{◌≡◌, ◌<◌, ◌≤◌, MatchResult, MatchOption, IfErr, OnErr, length, ◌↔◌, IsTrue, None};
-ghost use Rattle.std.specs.Arc.{arc_value};
+ghost use Rattle.std.specs.Prelude.{◌≡◌, ◌<◌, ◌≤◌, MatchResult, IfErr, OnErr, length, ◌↔◌, IsTrue, None};
 ghost use Rattle.cap_model.specs.Sight.{sight_of};
 ghost use Rattle.cap_base.specs.Limits.{resources};
-ghost use Rattle.cap_copy.specs.Snapshot.{sight_in};
 ghost use Rattle.cap_copy.specs.Sources.{sight_of_copy};
 ghost use Rattle.cap_model.specs.Admission.{reason_of};
 ghost use Rattle.cap_commit.specs.Admission.{taken_back};
@@ -18,21 +16,19 @@ use crate::marks::{
     compare, enter, next_position, note_copied, note_no_memory, note_rejected, note_sealed_call,
     note_sealed_commit,
 };
-use crate::news::News;
+use crate::news::Piece;
 use crate::passes::{Pass, Word};
 use crate::replica::Replica;
 use crate::seat::{Naming, Seat};
-use crate::shown::{Shown, ShownLast};
 use bumpalo::Bump;
 use cap_base::RESOURCES;
 use cap_commit::Cluster;
 use cap_copy::ClusterCopy;
 use cap_model::{Event, NoMemory, OwnedReply, Proposal, Request, Verdict};
-use cap_sights::{copy_in, snapshot_of};
+use cap_sights::copy_in;
 use cap_vector::Resource;
 use std::alloc::Global;
 use std::marker::{Model, PhantomData};
-use std::sync::Arc;
 
 /// The cluster and its journal, with the pass that knows the journal.
 #[derive(Drop)]
@@ -41,8 +37,6 @@ pub struct Desk<J: Naming> {
     pub(crate) journal: Vec<Entry>,
     pub(crate) limit: usize,
     pub(crate) pass: Pass,
-    /// What it shows is the cluster as it is while the journal has as many entries as then.
-    pub(crate) shown: Option<ShownLast>,
     pub(crate) of: PhantomData<J>,
 }
 
@@ -55,7 +49,7 @@ impl<J: Naming> Model for Desk<J> {
     ghost view = { λ d. record { cluster = d.cluster.flat; log = d.journal.items } };
 
     ghost invariant = { λ d. IsDesk J.table J.opening J.limit J.seats d.cluster.flat
-        d.journal.items d.pass.table_id d.pass.me d.limit (vec_capacity d.journal) d.shown };
+        d.journal.items d.pass.table_id d.pass.me d.limit (vec_capacity d.journal) };
 }
 
 impl<J: Naming> Desk<J> {
@@ -283,75 +277,25 @@ impl<J: Naming> Desk<J> {
         Ok(copied)
     }
 
-    /// What was entered since a replica looked last, with a note of a copy: the replica is to be the cluster as it is now. If an allocation
-    /// fails nothing changes.
+    /// What was entered since a replica looked last, or the first piece of it, with a note of a copy: with all of it the replica is to be the
+    /// cluster as it is now. If an allocation fails nothing changes.
     pub fn news(
         &mut self,
         alloc: Global,
         word: &Word,
         seat: &mut Seat<J>,
         replica: &Replica<J>,
-    ) -> Result<News, NoMemory>
+    ) -> Result<Piece, NoMemory>
         requires word { (word.now.table_id ≡ J.table) × (0 < word.now.table_id.words) }
         requires follows { Follows replica.now.log seat.old.past }
-        ensures { MatchResult result (IsNews J.opening replica.now.log seat.old seat.new)
+        ensures { MatchResult result
+            (λ piece. IsNews J.opening replica.now.log seat.old seat.new piece.news piece.are_all)
             (λ _. seat.new ≡ seat.old) }
     {
-        let Ok(news) = News::after(alloc, &self.journal, replica.followed()) else {
+        let Ok(piece) = Piece::after(alloc, &self.journal, replica.followed()) else {
             return Err(NoMemory);
         };
         note_copied(word, &mut self.pass, &self.journal, &mut seat.pass);
-        Ok(news)
-    }
-
-    /// The last snapshot that was shown, where it shows the cluster as it is, which is noted. Else nothing changes.
-    pub fn shown(&mut self, word: &Word, seat: &mut Seat<J>) -> Option<Arc<Shown, Global>>
-        requires word { (word.now.table_id ≡ J.table) × (0 < word.now.table_id.words) }
-        ensures { MatchOption result (seat.new ≡ seat.old) (λ shown.
-            CopyIs J.opening seat.old seat.new (sight_in resources (arc_value shown))) }
-    {
-        let last = self.shown.as_ref()?;
-        if last.entries != self.journal.len() {
-            return None;
-        }
-        let Ok(shown) = Arc::try_clone(&last.shown) else {
-            return None;
-        };
-        note_copied(word, &mut self.pass, &self.journal, &mut seat.pass);
-        Some(shown)
-    }
-
-    /// A snapshot of the cluster as it is, which is noted: the last that was shown, or one that is made now and shown to others as long as
-    /// nothing is entered. If an allocation fails nothing changes but that none is shown any more.
-    pub fn show(
-        &mut self,
-        alloc: Global,
-        word: &Word,
-        seat: &mut Seat<J>,
-    ) -> Result<Arc<Shown, Global>, NoMemory>
-        requires word { (word.now.table_id ≡ J.table) × (0 < word.now.table_id.words) }
-        ensures { MatchResult result (λ shown.
-            CopyIs J.opening seat.old seat.new (sight_in resources (arc_value shown)))
-            (λ _. seat.new ≡ seat.old) }
-    {
-        if let Some(shown) = self.shown(word, seat) {
-            return Ok(shown);
-        }
-        self.shown = None;
-        let Ok(snapshot) = snapshot_of(alloc, &self.cluster) else {
-            return Err(NoMemory);
-        };
-        let Ok(shown) = Arc::new(alloc, Shown::new(snapshot)) else {
-            return Err(NoMemory);
-        };
-        let Ok(kept) = Arc::try_clone(&shown) else {
-            return Err(NoMemory);
-        };
-        self.shown = Some(ShownLast {
-            shown: kept,
-            entries: self.journal.len(),
-        });
-        note_copied(word, &mut self.pass, &self.journal, &mut seat.pass);
-        Ok(shown)
+        Ok(piece)
     }
 }

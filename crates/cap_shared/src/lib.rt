@@ -17,7 +17,7 @@ mod passes;
 mod replica;
 mod seat;
 mod shared;
-mod shown;
+mod tally;
 mod turnstile;
 mod word_rule;
 
@@ -27,8 +27,7 @@ pub use entry::{Entry, Receipt};
 pub use faults::{CallFault, CommitFault, Fault};
 pub use history::{Mark, Moment, NotedAnswer, Sitting, View};
 pub use laws::{journals_lead_to_states, journals_stay_bounded};
-pub use news::News;
+pub use news::{News, PIECE_MAX, Piece};
 pub use replica::Replica;
 pub use seat::{Naming, Seat};
 pub use shared::{Hold, Shared};
-pub use shown::Shown;

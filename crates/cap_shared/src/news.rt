@@ -1,6 +1,6 @@
-//! What was entered in the journal since a replica looked last (`News`).
-ghost use Rattle.std.specs.Prelude.{◌≡◌, ◌++◌, ◌∷◌, [], length, drop, IfOk, OnOk};
-ghost use Rattle.cap_shared.specs.Following.{deeds_of};
+//! What was entered in the journal since a replica looked last (`News`), and a piece of it (`Piece`).
+ghost use Rattle.std.specs.Prelude.{◌≡◌, ◌+◌, ◌≤◌, ◌↔◌, ◌++◌, ◌∷◌, [], length, take, drop, IsTrue, IfOk, OnOk};
+ghost use Rattle.cap_shared.specs.Following.{deeds_of, piece_max};
 
 use crate::deed::Deed;
 use crate::entry::Entry;
@@ -8,6 +8,11 @@ use cap_model::NoMemory;
 use http_server::Log;
 use std::alloc::Global;
 use std::marker::Model;
+
+/// How many entries one piece of news has at most: while it is taken nobody else has the cluster.
+pub const PIECE_MAX: usize = 256;
+
+const _: () = prove!(PIECE_MAX == 256);
 
 /// Entries of the journal, one after the other, as a replica makes them again. Contracts see the entries.
 pub struct News {
@@ -38,23 +43,25 @@ impl Model for News {
 }
 
 impl News {
-    /// The entries of the journal from this position on, in memory of their own. If an allocation fails there are none.
+    /// The entries of the journal from this position on, but so many at most, in memory of their own. If an allocation fails there are none.
     pub(crate) fn after(
         alloc: Global,
         journal: &Vec<Entry>,
         position: usize,
+        most: usize,
     ) -> Result<News, NoMemory>
-        ensures { IfOk result (λ news. news ≡ drop position journal.now.items) }
+        ensures { IfOk result (λ news. news ≡ take most (drop position journal.now.items)) }
     {
-        let Ok(deeds) = Vec::with_capacity(alloc, journal.len().saturating_sub(position)) else {
+        let count = journal.len().saturating_sub(position).min(most);
+        let Ok(deeds) = Vec::with_capacity(alloc, count) else {
             return Err(NoMemory);
         };
         let mut news = News {
             deeds,
             entries: Log::new(),
         };
-        for index in position..journal.len() {
-            let Ok(()) = news.add(&journal[index]) else {
+        for index in 0..count {
+            let Ok(()) = news.add(&journal[position + index]) else {
                 return Err(NoMemory);
             };
         }
@@ -87,5 +94,32 @@ impl News {
         ensures { result.now ≡ deeds_of self.now }
     {
         self.deeds.as_slice()
+    }
+}
+
+/// What a replica is given of the news under one hold, and whether they are all.
+#[derive(Drop)]
+pub struct Piece {
+    pub news: News,
+    pub are_all: bool,
+}
+
+impl Piece {
+    /// The entries of the journal from this position on, `PIECE_MAX` at most. If an allocation fails there are none.
+    pub(crate) fn after(
+        alloc: Global,
+        journal: &Vec<Entry>,
+        position: usize,
+    ) -> Result<Piece, NoMemory>
+        ensures news { IfOk result
+            (λ piece. piece.news ≡ take piece_max (drop position journal.now.items)) }
+        ensures all { IfOk result
+            (λ piece. IsTrue piece.are_all ↔ (length journal.now.items ≤ position + piece_max)) }
+    {
+        let are_all = journal.len().saturating_sub(position) <= PIECE_MAX;
+        let Ok(news) = News::after(alloc, journal, position, PIECE_MAX) else {
+            return Err(NoMemory);
+        };
+        Ok(Piece { news, are_all })
     }
 }

@@ -106,7 +106,9 @@ impl<J: Naming> Replica<J> {
         ensures { IfOk result (λ cluster. cluster.flat ≡ closed.now.cluster.flat) }
     {
         let mut replica = self;
-        let Ok(news) = News::after(replica.alloc, &closed.journal, replica.followed()) else {
+        let journal = &closed.journal;
+        let news = News::after(replica.alloc, journal, replica.followed(), journal.len());
+        let Ok(news) = news else {
             return Err(NoMemory);
         };
         let Ok(()) = replica.catch_up(news) else {

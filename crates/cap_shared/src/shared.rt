@@ -1,6 +1,5 @@
 //! The cluster that threads share, with its seats (`Shared`), and what one thread does under one lock (`Hold`).
-ghost use Rattle.std.specs.Prelude.{◌≡◌, ℕ, ◌<◌, ◌≤◌, [], length, map, vec_capacity, IfOk, OnOk, OnErr, MatchOption, MatchResult};
-ghost use Rattle.std.specs.Arc.{arc_value};
+ghost use Rattle.std.specs.Prelude.{◌≡◌, ℕ, ◌<◌, ◌≤◌, [], length, map, vec_capacity, IfOk, OnOk, OnErr, MatchResult};
 ghost use Rattle.cap_base.specs.Limits.{resources};
 ghost use Rattle.cap_copy.specs.Snapshot.{sight_in};
 ghost use Rattle.cap_copy.specs.Sources.{sight_of_copy};
@@ -16,11 +15,11 @@ use crate::desk::Desk;
 use crate::entry::Entry;
 use crate::faults::{CallFault, CommitFault, Fault};
 use crate::history::{Mark, View};
-use crate::news::News;
+use crate::news::Piece;
 use crate::passes::{Pass, Word};
 use crate::replica::Replica;
 use crate::seat::{Naming, Seat};
-use crate::shown::Shown;
+use crate::tally::Tally;
 use crate::turnstile::{Place, Turnstile};
 use crate::word_rule::{Compares, Handover, JournalRule};
 use atomic_table::Table;
@@ -31,13 +30,14 @@ use cap_copy::{ClusterCopy, Snapshot};
 use cap_model::{NoMemory, OwnedReply, Proposal, Request, Verdict};
 use std::alloc::Global;
 use std::marker::PhantomData;
-use std::sync::{Arc, Mutex, MutexGuard, Wait};
+use std::sync::{Mutex, MutexGuard, Wait};
 
 /// A cluster under a lock, its journal, and the word that ties both to the seats. Threads share it by reference, each with a seat.
 pub struct Shared<J: Naming> {
     alloc: Global,
     table: Table<Mark, View, u64, JournalRule, Global>,
     turnstile: Turnstile,
+    tally: Tally,
     desk: Mutex<Desk<J>>,
     room: Vec<SeatReport>,
     ghost named: { table.shared.table_id ≡ J.table },
@@ -52,6 +52,7 @@ impl<J: Naming> Drop for Shared<J> {
             alloc: _,
             table: _,
             turnstile: _,
+            tally: _,
             desk: _,
             room: _,
         } = self;
@@ -62,6 +63,7 @@ impl<J: Naming> Drop for Shared<J> {
 pub struct Hold<'a, J: Naming> {
     alloc: Global,
     word: &'a Word,
+    tally: &'a Tally,
     desk: MutexGuard<'a, Desk<J>>,
     /// Of one that calls, its place before the lock.
     place: Option<MutexGuard<'a, Place>>,
@@ -74,9 +76,11 @@ impl<'a, J: Naming> Drop for Hold<'a, J> {
         let Hold {
             alloc: _,
             word: _,
+            tally,
             desk,
             place,
         } = self;
+        tally.keep(desk.entries());
         drop(desk);
         drop(place);
     }
@@ -131,32 +135,16 @@ impl<'a, J: Naming> Hold<'a, J> {
         self.desk.copy(arena, self.word, seat)
     }
 
-    /// What was entered since a replica of this thread looked last, with a note of a copy: once it has caught up, which takes no lock, the
-    /// replica is the cluster as it was then. The replica follows the journal of this seat. If an allocation fails nothing changes.
-    pub fn news(&mut self, seat: &mut Seat<J>, replica: &Replica<J>) -> Result<News, NoMemory>
+    /// What was entered since a replica of this thread looked last, `PIECE_MAX` entries at most, with a note of a copy. Once it has caught up
+    /// with all, which takes no lock, the replica is the cluster as it was then; where they are not all, the next call gives more. The replica
+    /// follows the journal of this seat. If an allocation fails nothing changes.
+    pub fn news(&mut self, seat: &mut Seat<J>, replica: &Replica<J>) -> Result<Piece, NoMemory>
         requires { Follows replica.now.log seat.old.past }
-        ensures { MatchResult result (IsNews J.opening replica.now.log seat.old seat.new)
+        ensures { MatchResult result
+            (λ piece. IsNews J.opening replica.now.log seat.old seat.new piece.news piece.are_all)
             (λ _. seat.new ≡ seat.old) }
     {
         self.desk.news(self.alloc, self.word, seat, replica)
-    }
-
-    /// The last snapshot that was shown, where it shows the cluster as it is. Else there is none, and nothing changes.
-    pub fn shown(&mut self, seat: &mut Seat<J>) -> Option<Arc<Shown, Global>>
-        ensures { MatchOption result (seat.new ≡ seat.old) (λ shown.
-            CopyIs J.opening seat.old seat.new (sight_in resources (arc_value shown))) }
-    {
-        self.desk.shown(self.word, seat)
-    }
-
-    /// A snapshot of the cluster as it is: the last that was shown, or one that is made and arranged while the cluster is held, and that
-    /// `shown` gives until something is entered. If an allocation fails the seat was answered nothing, and none is shown any more.
-    pub fn show(&mut self, seat: &mut Seat<J>) -> Result<Arc<Shown, Global>, NoMemory>
-        ensures { MatchResult result (λ shown.
-            CopyIs J.opening seat.old seat.new (sight_in resources (arc_value shown)))
-            (λ _. seat.new ≡ seat.old) }
-    {
-        self.desk.show(self.alloc, self.word, seat)
     }
 
     /// Whether the journal is full.
@@ -206,11 +194,6 @@ impl<J: Naming> Shared<J> {
         self.held(desk, None)
     }
 
-    /// Whether many calls wait for the cluster: 4 or more, of all threads. More or fewer may wait by the time that this returns.
-    pub fn has_many_calls(&self) -> bool {
-        self.turnstile.has_many_calls()
-    }
-
     /// The cluster, held.
     fn held<'a>(
         &'a self,
@@ -220,6 +203,7 @@ impl<J: Naming> Shared<J> {
         Hold {
             alloc: self.alloc,
             word: &self.table.shared,
+            tally: &self.tally,
             desk,
             place,
         }
@@ -259,14 +243,14 @@ impl<J: Naming> Shared<J> {
         }
     }
 
-    /// Whether the journal is full. Once it is, it stays so.
-    pub fn is_full<R: Wait>(&self, rt: &R) -> bool {
-        self.hold_to_schedule(rt).is_full()
+    /// Whether the journal was full when a thread gave the cluster back last. Once it is full, it stays so. This takes no lock.
+    pub fn is_full(&self) -> bool {
+        self.tally.is_full()
     }
 
-    /// How many entries the journal has. Another thread may have entered more by the time that this returns.
-    pub fn entries<R: Wait>(&self, rt: &R) -> usize {
-        self.hold_to_schedule(rt).entries()
+    /// How many entries the journal had when a thread gave the cluster back last. Another thread may have entered more. This takes no lock.
+    pub fn entries(&self) -> usize {
+        self.tally.entries()
     }
 
     /// Opens an epoch over a cluster, with a journal of at most so many entries, and seats that were answered nothing. The journal, room for
@@ -301,7 +285,6 @@ impl<J: Naming> Shared<J> {
             journal,
             limit,
             pass,
-            shown: None,
             of: PhantomData,
         };
         Ok((
@@ -309,6 +292,7 @@ impl<J: Naming> Shared<J> {
                 alloc,
                 table,
                 turnstile: Turnstile::new(),
+                tally: Tally::new(limit),
                 desk: Mutex::new(desk),
                 room,
             },
@@ -332,6 +316,7 @@ impl<J: Naming> Shared<J> {
             alloc: _,
             table,
             turnstile: _,
+            tally: _,
             desk,
             mut room,
         } = self;
@@ -340,7 +325,6 @@ impl<J: Naming> Shared<J> {
             journal,
             limit: _,
             mut pass,
-            shown: _,
             of: _,
         } = desk.into_inner();
         for seat in seats {

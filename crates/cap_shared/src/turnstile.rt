@@ -55,7 +55,7 @@ impl Turnstile {
     }
 
     /// Whether many calls wait.
-    pub(crate) fn has_many_calls(&self) -> bool {
+    fn has_many_calls(&self) -> bool {
         self.calls.load(Ordering::SeqCst) >= MANY_CALLS
     }
 

@@ -4,7 +4,6 @@ use crate::shortage::Shortage;
 use bumpalo::Bump;
 use cap_base::RESOURCES;
 use cap_model::{Event, OwnedReply, Proposal, ProposalKind, ReplyWith, Request, Verdict};
-use cap_propose::propose;
 use cap_shared::{CallFault, CommitFault, Naming, Receipt, Seat, Shared};
 use cap_testing::Call;
 use cap_workers::{Committer, OfferEnd, OpenGate, Putter, TurnEnd, Worker, lanes};
@@ -19,8 +18,6 @@ pub enum Act {
     Commit,
     Turn,
     Offer,
-    /// A snapshot is shown, on which the grant is proposed.
-    Show,
 }
 
 /// What came of an act.
@@ -64,17 +61,13 @@ impl Tools {
 }
 
 /// How many entries the epoch has, of which the seat has the receipts: none, or one at position 0.
-fn entered<J: Naming, H: Wait>(rt: &H, shared: &Shared<J>, seat: &Seat<J>) -> Option<u64> {
+fn entered<J: Naming>(shared: &Shared<J>, seat: &Seat<J>) -> Option<u64> {
     let position = match seat.receipts() {
-        [] => return if shared.entries(rt) == 0 {
-            Some(0)
-        } else {
-            None
-        },
+        [] => return if shared.entries() == 0 { Some(0) } else { None },
         [Receipt::Call { position, .. }] | [Receipt::Commit { position, .. }] => *position,
         _ => return None,
     };
-    if shared.entries(rt) == 1 && position == 0 {
+    if shared.entries() == 1 && position == 0 {
         Some(1)
     } else {
         None
@@ -189,17 +182,6 @@ fn offer<J: Naming, H: Wait>(
     }
 }
 
-fn show<J: Naming, H: Wait>(rt: &H, shared: &Shared<J>, seat: &mut Seat<J>) -> ActEnd {
-    let shown = shared.hold_to_schedule(rt).show(seat);
-    let Ok(shown) = shown else {
-        return ActEnd::Refused;
-    };
-    match propose(shown.snapshot(), 0) {
-        Some(proposal) if is_grant(&proposal) => ActEnd::Made,
-        _ => ActEnd::Other,
-    }
-}
-
 /// Makes an act. An offer is put by the first of the putters.
 fn make<J: Naming, H: Wait>(
     rt: &H,
@@ -215,12 +197,10 @@ fn make<J: Naming, H: Wait>(
         (Act::Turn, _) => turn(rt, shared, seat, tools),
         (Act::Offer, Some(putter)) => offer(rt, shared, seat, tools, putter),
         (Act::Offer, None) => ActEnd::Other,
-        (Act::Show, _) => show(rt, shared, seat),
     }
 }
 
-/// What comes of an act where memory is short: a refusal enters nothing, and the act is made once memory is there. An offer and a snapshot enter
-/// nothing.
+/// What comes of an act where memory is short: a refusal enters nothing, and the act is made once memory is there. An offer enters nothing.
 fn judged<J: Naming, H: Wait>(
     rt: &H,
     shortage: &mut Shortage<'_>,
@@ -234,7 +214,7 @@ fn judged<J: Naming, H: Wait>(
     let first = make(rt, shared, seat, tools, act, putters);
     shortage.end();
     let was_refused = first == ActEnd::Refused;
-    if was_refused && entered(rt, shared, seat) != Some(0) {
+    if was_refused && entered(shared, seat) != Some(0) {
         return Came::Other;
     }
     let last = if was_refused {
@@ -243,10 +223,10 @@ fn judged<J: Naming, H: Wait>(
         first
     };
     let wanted = match act {
-        Act::Offer | Act::Show => 0,
+        Act::Offer => 0,
         Act::Call(_) | Act::Commit | Act::Turn => 1,
     };
-    let is_so = last == ActEnd::Made && entered(rt, shared, seat) == Some(wanted);
+    let is_so = last == ActEnd::Made && entered(shared, seat) == Some(wanted);
     came_of(was_refused, is_so)
 }
 

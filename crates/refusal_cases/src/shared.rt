@@ -65,8 +65,8 @@ const EIGHT_MORE: &[WantedContainers<'static>] = &[
     WantedContainers { request: 8, ..ONE },
 ];
 
-/// A Submit, a second Allocate of eight more asks, a grant, a turn, an offer, a snapshot that is shown, the opening of an epoch, and lanes.
-pub static TASKS: [Case; 8] = [
+/// A Submit, a second Allocate of eight more asks, a grant, a turn, an offer, the opening of an epoch, and lanes.
+pub static TASKS: [Case; 7] = [
     Case::Task(
         Before::Nothing,
         Task::Act(Act::Call(Call::Submit(b"root.a", b"u1"))),
@@ -78,7 +78,6 @@ pub static TASKS: [Case; 8] = [
     Case::Task(Before::Asking, Task::Act(Act::Commit)),
     Case::Task(Before::Asking, Task::Act(Act::Turn)),
     Case::Task(Before::Asking, Task::Act(Act::Offer)),
-    Case::Task(Before::Asking, Task::Act(Act::Show)),
     Case::Task(Before::Nothing, Task::Open),
     Case::Lanes,
 ];

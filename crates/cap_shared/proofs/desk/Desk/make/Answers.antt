@@ -21,7 +21,7 @@ pub invariant_of-self-2 : goal.invariant_of-self-2
 invariant_of-self-2 g c =
     let log : length c.self.inside.journal.items ≡ length c.args.self.now.log = ap (λ (v : Content). length v.log) c.self.view_is in
     let step = subst (λ (e : Event resources). Step c.self.inside.cluster.flat e c.make_proposed.new.cluster.flat) (sym c.event.ensures) c.in-Ok.ensures.step in
-    entered_desk _ _ _ _ c.self.inside.journal.items c.self.inside.pass c.enter.new.desk c.seat.inside.pass c.enter.new.seat c.self.inside.cluster.flat c.make_proposed.new.cluster.flat _ _ _ _ (record { seat = c.seat.inside.number; event = c.event.result }) (receipt.Commit c.next_position-at.result c.event-2.result) _
+    entered_desk _ _ _ _ c.self.inside.journal.items c.self.inside.pass c.enter.new.desk c.seat.inside.pass c.enter.new.seat c.self.inside.cluster.flat c.make_proposed.new.cluster.flat _ _ _ (record { seat = c.seat.inside.number; event = c.event.result }) (receipt.Commit c.next_position-at.result c.event-2.result) _
     c.self.invariant c.enter.ensures.entered step (c.seat.invariant.below, event_by _ c.in-Ok.made _ c.event.ensures) (omega (arith, c.requires.room, c.self.invariant.limit_is)) c.enter.ensures.journal c.enter.ensures.capacity
 
 pub invariant_of-seat-2 : goal.invariant_of-seat-2
