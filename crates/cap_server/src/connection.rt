@@ -3,15 +3,15 @@ ghost use Rattle.std.specs.Prelude.{◌≡◌, [], None, IfSome};
 ghost use Rattle.cap_session.specs.Session.{new_session};
 ghost use Rattle.std.specs.Option.{option_to_list};
 ghost use Rattle.cap_session.specs.Session.{open_requests};
-ghost use Rattle.cap_workers.specs.Sessions.{IsServed};
+ghost use Rattle.cap_serving.specs.Sessions.{IsServed};
 ghost use Rattle.cap_streams.specs.Backlogs.{handed_bytes};
 
 use cap_base::RESOURCES;
 use cap_model::Request;
+use cap_serving::{EndCause, SessionEnd, serve_session};
 use cap_session::{Counted, Session};
 use cap_shared::{Naming, Seat, Shared};
 use cap_streams::{Backlog, EndSignal, Incoming, Outgoing, Poller, Sender, Uninterrupted};
-use cap_workers::{EndCause, SessionEnd, serve_session};
 use mio::Interest;
 use std::alloc::Global;
 use std::io::{self, ErrorKind, Read, Write};
@@ -347,7 +347,7 @@ impl ClientSocket {
         signal: &EndSignal,
     ) -> io::Result<bool> {
         for _ in rt.forever() {
-            if shared.is_full(rt) {
+            if shared.is_full() {
                 signal.raise(rt);
             }
             if signal.is_over() {

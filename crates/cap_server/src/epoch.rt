@@ -1,5 +1,6 @@
 //! An epoch: all tasks over one shared cluster, until its journal is full or all connections have ended (`epoch`).
-ghost use Rattle.std.specs.Prelude.{◌≡◌, ◌≤◌, ◌<◌, ◌+◌, length, IfOk};
+ghost use Rattle.std.specs.Prelude.{◌≡◌, ◌≤◌, ◌<◌, ◌+◌, length, map, IfOk};
+ghost use Rattle.cap_shared.specs.WordRule.{fresh};
 ghost use Rattle.cap_workers.specs.Idle.{AllAre};
 ghost use Rattle.cap_server.specs.Epochs.{LeadsTo};
 
@@ -48,8 +49,8 @@ impl Carried {
 }
 
 /// An epoch over the cluster that the last one left, with a seat for each connection, each worker and the committer: its journal leads from this
-/// cluster to the one that is left, and each worker has that too. An error means that an allocation failed or that a thread could not be made; the
-/// cluster is given up then.
+/// cluster to the one that is left, and each worker has that too. As many workers go on as began, and what the seat of each was answered are its turns, or
+/// its offers and commits, and nothing else. An error means that an allocation failed or that a thread could not be made; the cluster is given up then.
 pub(crate) fn epoch<H: Net + Threads + Wait + Clock + Eprint + Input + Sync, G: Gate + Sync>(
     rt: &H,
     alloc: Global,
@@ -57,9 +58,11 @@ pub(crate) fn epoch<H: Net + Threads + Wait + Clock + Eprint + Input + Sync, G: 
     state: &SharedState<'_, G>,
 ) -> Result<Carried, NoMemory>
     requires { AllAre carried.cluster.flat carried.workers.items }
-    ensures run { IfOk result (λ next.
-        LeadsTo state.now.limit carried.cluster.flat next.entries next.cluster.flat) }
+    ensures run { IfOk result (λ next. LeadsTo state.now.limit carried.cluster.flat
+        (map (λ w. w.worker) next.workers.items) next.entries next.cluster.flat) }
     ensures workers { IfOk result (λ next. AllAre next.cluster.flat next.workers.items) }
+    ensures count { IfOk result (λ next.
+        length next.workers.items ≡ length carried.workers.items) }
 {
     match Blank::new(alloc, state.seats) {
         Ok(blank) => {
@@ -92,18 +95,19 @@ fn named_epoch<
     requires count { state.now.seats ≡ J.seats }
     requires some { (1 ≤ J.limit) × (J.limit ≤ 1000000) }
     requires few { (1 ≤ J.seats) × (J.seats ≤ 256) }
-    ensures run { IfOk result (λ next.
-        LeadsTo state.now.limit cluster.flat next.entries next.cluster.flat) }
+    ensures run { IfOk result (λ next. LeadsTo state.now.limit cluster.flat
+        (map (λ w. w.worker) next.workers.items) next.entries next.cluster.flat) }
     ensures workers { IfOk result (λ next. AllAre next.cluster.flat next.workers.items) }
+    ensures count { IfOk result (λ next. length next.workers.items ≡ length begun.0.items) }
 {
     let (shared, seats) = Shared::<J>::open(alloc, blank, cluster, state.limit)?;
     let left = work_all(rt, alloc, &shared, state, begun, seats)?;
     let Left {
         participants,
-        schedulers,
+        workers,
         seats,
     } = left;
-    let (closed, workers) = close_epoch(alloc, shared, seats, schedulers)?;
+    let (closed, workers) = close_epoch(alloc, shared, seats, workers)?;
     let (carried, records) = parted(closed, workers, participants);
     state.leave(rt, records, carried.participants.acceptor.accepted());
     Ok(carried)
@@ -125,10 +129,13 @@ fn work_all<
 ) -> Result<Left<J>, NoMemory>
     requires count { state.now.seats ≡ J.seats }
     requires workers { AllAre J.opening begun.0.items }
-    ensures { IfOk result (λ left.
-        length left.seats.items + length left.schedulers.items ≡ J.seats) }
+    requires fresh { seats.items ≡ fresh 0 J.seats }
+    ensures seats { IfOk result (λ left.
+        length left.seats.items + length left.workers.items ≡ J.seats) }
+    ensures workers { IfOk result (λ left. length left.workers.items ≡ length begun.0.items) }
 {
     let (workers, participants) = begun;
+    let count = workers.len();
     let mut seats = seats;
     let schedulers = begin_epoch(alloc, workers, &mut seats)?;
     let lanes = Lanes::new(alloc, state.lanes)?;
@@ -148,7 +155,9 @@ fn work_all<
         (running, schedulers),
         participants,
     )?;
-    if left.seats.len().checked_add(left.schedulers.len()) != Some(state.seats as usize) {
+    if left.workers.len() != count
+        || left.seats.len().checked_add(count) != Some(state.seats as usize)
+    {
         return Err(NoMemory);
     }
     Ok(left)

@@ -8,7 +8,7 @@ use crate::task::Done;
 use cap_model::NoMemory;
 use cap_shared::{Naming, Seat};
 use cap_streams::EndSignal;
-use cap_workers::{Committer, Putter, Scheduler, lanes};
+use cap_workers::{Committer, Putter, Scheduled, lanes};
 use std::alloc::Global;
 use std::sync::Wait;
 use std::thread::{JoinHandle, Threads};
@@ -32,11 +32,12 @@ impl Participants {
     }
 }
 
-/// What the threads of an epoch leave: who works on, and all seats, those of workers with them.
+/// What the threads of an epoch leave: who works on, and all seats, those of workers with them. Each worker took turns, or made offers and
+/// commits, and nothing else.
 #[derive(Drop)]
 pub(crate) struct Left<J: Naming> {
     pub participants: Participants,
-    pub schedulers: Vec<Scheduler<J>>,
+    pub workers: Vec<Scheduled<J>>,
     pub seats: Vec<Seat<J>>,
 }
 
@@ -105,7 +106,7 @@ pub(crate) struct EpochThreads<J: Naming> {
     pub waiting: Vec<ClientConnection>,
     /// Those that have no thread and wait for none.
     pub connections: Vec<ClientConnection>,
-    pub schedulers: Vec<Scheduler<J>>,
+    pub workers: Vec<Scheduled<J>>,
     /// How many connections have ended whose places were not given on yet.
     pub ended: u32,
     /// Whether an allocation failed, or a thread could not be made.
@@ -121,7 +122,7 @@ impl<J: Naming> EpochThreads<J> {
         workers: usize,
     ) -> Result<EpochThreads<J>, NoMemory> {
         let count = seats.len().saturating_add(workers);
-        let (Ok(threads), Ok(waiting), Ok(connections), Ok(schedulers)) = (
+        let (Ok(threads), Ok(waiting), Ok(connections), Ok(left)) = (
             Vec::with_capacity(alloc, count),
             Vec::with_capacity(alloc, count),
             Vec::with_capacity(alloc, count),
@@ -134,7 +135,7 @@ impl<J: Naming> EpochThreads<J> {
             threads,
             waiting,
             connections,
-            schedulers,
+            workers: left,
             ended: 0,
             has_failed: false,
         })
@@ -232,7 +233,7 @@ impl<J: Naming> EpochThreads<J> {
                 self.end_connection();
                 self.is_seat_back(seat)
             }
-            Done::Worker(scheduler) => self.schedulers.push(scheduler).is_ok(),
+            Done::Worker(worker) => self.workers.push(worker).is_ok(),
             Done::Committer(seat) => self.is_seat_back(seat),
             Done::Nothing => false,
         };
@@ -297,7 +298,7 @@ impl<J: Naming> EpochThreads<J> {
             threads: _,
             mut waiting,
             mut connections,
-            schedulers,
+            workers,
             ended,
             has_failed,
         } = self;
@@ -310,7 +311,7 @@ impl<J: Naming> EpochThreads<J> {
                 acceptor,
                 connections,
             },
-            schedulers,
+            workers,
             seats,
         })
     }

@@ -1,5 +1,5 @@
 //! The daemon's run: its sizes (`Sizes`), one epoch after the other, and what it prints (`serve_on`).
-ghost use Rattle.std.specs.Prelude.{◌≡◌, ◌<◌, ◌≤◌, ◌↔◌, Err, IfOk, IfErr, OnOk, MatchResult, IsTrue};
+ghost use Rattle.std.specs.Prelude.{◌≡◌, ◌<◌, ◌≤◌, ◌↔◌, Err, IfOk, IfErr, OnOk, MatchResult, IsTrue, length};
 ghost use Rattle.std.specs.Io.KnownBytes.{Appends};
 ghost use Rattle.cap_model.specs.Flat.{opened_cluster};
 ghost use Rattle.cap_session.specs.Counted.{state_of, inner_of, CanCount};
@@ -117,7 +117,7 @@ pub fn serve_on<H: Net + Threads + Wait + Clock + Eprint + Input + Sync, G: Gate
     ensures failed { (state_of writer.old).failures < (state_of writer.new).failures → result ≡ 1 }
     ensures printed { Prints (state_of writer.old) (state_of writer.new)
         (W.contents (inner_of writer.old)) (W.contents (inner_of writer.new))
-        (Ends sizes.now.journal (opened_cluster config.now) result) }
+        (Ends sizes.now.journal sizes.now.workers (opened_cluster config.now) result) }
 {
     let Opened { listener, audit } = opened;
     let port = match port_of(&listener) {
@@ -202,7 +202,7 @@ fn serve_all<H: Net + Threads + Wait + Clock + Eprint + Input + Sync, G: Gate + 
     ensures failed { (state_of writer.old).failures < (state_of writer.new).failures → result ≡ 1 }
     ensures printed { Prints (state_of writer.old) (state_of writer.new)
         (W.contents (inner_of writer.old)) (W.contents (inner_of writer.new))
-        (Closes state.now.limit carried.cluster.flat result) }
+        (Closes state.now.limit (length carried.workers.items) carried.cluster.flat result) }
 {
     let Ok((totals, carried)) = run_all(rt, alloc, state, carried) else {
         return no_memory(writer);
@@ -269,6 +269,8 @@ fn begin(
     ensures cluster { IfOk result (λ carried. carried.cluster.flat ≡ opened_cluster config.now) }
     ensures workers { IfOk result (λ carried.
         AllAre (opened_cluster config.now) carried.workers.items) }
+    ensures count { IfOk result (λ carried.
+        length carried.workers.items ≡ sizes.now.workers) }
 {
     let workers = workers_of(alloc, config, sizes.workers)?;
     Ok(Carried {
@@ -288,7 +290,8 @@ fn workers_of(
     config: &Config<RESOURCES>,
     count: u32,
 ) -> Result<Vec<IdleWorker>, NoMemory>
-    ensures { IfOk result (λ workers. AllAre (opened_cluster config.now) workers.items) }
+    ensures same { IfOk result (λ workers. AllAre (opened_cluster config.now) workers.items) }
+    ensures count { IfOk result (λ workers. length workers.items ≡ count) }
 {
     let mut workers = Vec::new(alloc);
     for number in 0..count {
@@ -319,8 +322,8 @@ fn run_all<H: Net + Threads + Wait + Clock + Eprint + Input + Sync, G: Gate + Sy
     carried: Carried,
 ) -> Result<(Totals, Carried), NoMemory>
     requires { AllAre carried.cluster.flat carried.workers.items }
-    ensures { IfOk result (λ run.
-        LeadsThrough state.now.limit carried.cluster.flat run.0 run.1.cluster.flat) }
+    ensures { IfOk result (λ run. LeadsThrough state.now.limit (length carried.workers.items)
+        carried.cluster.flat run.0 run.1.cluster.flat) }
 {
     let run = run_epochs(rt, alloc, state, carried);
     state.clear(rt, alloc);
@@ -340,8 +343,8 @@ fn run_epochs<H: Net + Threads + Wait + Clock + Eprint + Input + Sync, G: Gate +
     carried: Carried,
 ) -> Result<(Totals, Carried), NoMemory>
     requires { AllAre carried.cluster.flat carried.workers.items }
-    ensures { IfOk result (λ run.
-        LeadsThrough state.now.limit carried.cluster.flat run.0 run.1.cluster.flat) }
+    ensures { IfOk result (λ run. LeadsThrough state.now.limit (length carried.workers.items)
+        carried.cluster.flat run.0 run.1.cluster.flat) }
 {
     keep_memory(alloc);
     let mut carried = carried;

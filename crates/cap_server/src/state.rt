@@ -195,7 +195,7 @@ impl<'a, G> SharedState<'a, G> {
         if let Some(stats) = &mut *self.stats.lock(rt)
             && stats.is_due(rt)
         {
-            if shared.entries(rt) == 0 {
+            if shared.entries() == 0 {
                 stats.tell(rt, self.gate.count(), accepted);
             } else {
                 self.signal.raise(rt);

@@ -1,5 +1,5 @@
 //! What the threads of an epoch do: those of workers and of the committer (`Task`), and those that serve connections.
-ghost use Rattle.cap_server.specs.Tasks.{Schedules};
+ghost use Rattle.std.specs.Prelude.{◌≡◌};
 
 use crate::connection::ClientConnection;
 use crate::places::{Given, Place};
@@ -7,7 +7,7 @@ use crate::state::SharedState;
 use cap_shared::{Entry, Naming, Seat, SeatReport, Shared};
 use cap_streams::EndSignal;
 use cap_workers::{
-    Committer, Coordinator, Direction, Gate, Putter, Scheduler, StopSignal, commit_all,
+    Committer, Coordinator, Direction, Gate, Putter, Scheduled, Scheduler, StopSignal, commit_all,
 };
 use std::sync::Wait;
 use std::time::{Clock, Duration};
@@ -58,7 +58,7 @@ pub(crate) enum Done<J: Naming> {
     Connection(ClientConnection, Seat<J>),
     /// The connection has ended that was served with this seat.
     Ended(Seat<J>),
-    Worker(Scheduler<J>),
+    Worker(Scheduled<J>),
     /// The committer's seat. The next epoch has a committer of its own.
     Committer(Seat<J>),
     /// Nothing was given to the thread.
@@ -75,9 +75,8 @@ impl<J: Naming> Task<J> {
         coordinator: &Coordinator,
     ) -> Done<J> {
         match self {
-            Task::Schedule(mut scheduler, putter) => {
-                propose(rt, shared, state, coordinator, &mut scheduler, putter);
-                Done::Worker(scheduler)
+            Task::Schedule(scheduler, putter) => {
+                Done::Worker(propose(rt, shared, state, coordinator, scheduler, putter))
             }
             Task::Commit(committer, mut seat) => {
                 commit_all(rt, shared, &mut seat, coordinator, &state.gate, committer);
@@ -120,11 +119,10 @@ fn propose<J: Naming, H: Wait + Clock, G: Gate>(
     shared: &Shared<J>,
     state: &SharedState<'_, G>,
     coordinator: &Coordinator,
-    scheduler: &mut Scheduler<J>,
+    scheduler: Scheduler<J>,
     putter: Option<Putter>,
-)
-    ensures { Schedules J.opening J.limit scheduler.old.worker scheduler.old.follower
-        scheduler.new.worker scheduler.new.follower putter }
+) -> Scheduled<J>
+    ensures { result.worker.number ≡ scheduler.worker.number }
 {
     let leaving = Leaving::by(&state.signal);
     let direction = Direction {
@@ -132,11 +130,7 @@ fn propose<J: Naming, H: Wait + Clock, G: Gate>(
         signal: &leaving,
         gate: &state.gate,
     };
-    match putter {
-        Some(putter) => {
-            let _ended = scheduler.schedule_by_lane(rt, shared, &direction, putter);
-        }
-        None => scheduler.schedule(rt, shared, &direction),
-    }
+    let scheduled = scheduler.schedule(rt, shared, &direction, putter);
     state.signal.raise(rt);
+    scheduled
 }

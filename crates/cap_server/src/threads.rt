@@ -132,7 +132,7 @@ impl<
             }
         }
         for scheduler in schedulers {
-            let putter = lane_of(&mut putters, scheduler.worker.number);
+            let putter = lane_of(&mut putters, scheduler.number());
             self.begin(running, Task::Schedule(scheduler, putter));
         }
         finish_all(self.rt, putters);
@@ -260,7 +260,7 @@ impl<
             self.accept_all(running, acceptor);
             self.state
                 .look_at_stats(self.rt, self.shared, acceptor.accepted());
-            if self.shared.is_full(self.rt) {
+            if self.shared.is_full() {
                 self.state.signal.raise(self.rt);
             }
             if self.state.signal.is_over() {

@@ -1,11 +1,10 @@
 -- Commits of what was put into the lanes.
-use Rattle.cap_workers.proofs.Prelude.{◌≡◌, ℕ, Option, Some, None, List, [], ◌∷◌, ◌++◌, refl, sym, ◌∙◌, ap, subst, append_assoc, append-nil, NodeProposal, Entry, Sitting, IsCommitted, end_by}
+use Rattle.cap_workers.proofs.Prelude.{◌≡◌, ℕ, Option, Some, None, List, [], ◌∷◌, ◌++◌, sym, ◌∙◌, ap, subst, append_assoc, append-nil, NodeProposal, Entry, Sitting, end_by}
 use Rattle.std.specs.Option.{MatchOption}
 use Rattle.cap_lanes.specs.Sides.{CommitterSide}
 use Rattle.cap_shared.specs.Following.{Follows}
 use Rattle.cap_workers.specs.Committing.{Commits, commits_none, commits_one, CommitsNext, CommitsSome, CommitsTaken}
 use Rattle.cap_workers.specs.declared.gate.CommitOutcome.{CommitOutcome}
-use Rattle.cap_workers.specs.declared.worker.TurnEnd.{TurnEnd}
 use Rattle.cap_workers.proofs.Following.{committed_follows}
 use Rattle.cap_workers.proofs.Turning.{committed_by}
 

@@ -1,9 +1,4 @@
 mod Prelude
-mod Receipts
-mod Answering
-mod Streams
-mod Rounds
-mod Together
 mod Turning
 mod Following
 mod Commits

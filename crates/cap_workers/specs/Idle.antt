@@ -1,12 +1,17 @@
 -- Workers between epochs, and at the end of one.
-use Rattle.std.specs.Prelude.{◌≡◌, ◌⊎◌, List, [], ◌∷◌, All}
+use Rattle.std.specs.Prelude.{◌≡◌, ℕ, ◌≤◌, List, [], Option, length, All}
 use mathlib.Core.List.{IsPrefix}
 use Rattle.cap_base.specs.Limits.{resources}
+use Rattle.cap_base.specs.Members.{IsIn}
+use Rattle.cap_lanes.specs.Sides.{WorkerSide}
 use Rattle.cap_model.specs.Flat.{Flat}
 use Rattle.cap_shared.specs.Following.{Follows}
+use Rattle.cap_shared.specs.Journal.{AllHonest, Replays, TagsBelow}
 use Rattle.cap_shared.specs.Parts.{Content}
+use Rattle.cap_shared.specs.WordRule.{AllFit, times}
 use Rattle.cap_shared.specs.declared.entry.Entry.{Entry}
 use Rattle.cap_shared.specs.declared.history.Sitting.{Sitting}
+use Rattle.cap_workers.specs.Scheduling.{Works}
 use Rattle.cap_workers.specs.declared.idle.IdleWorker.{IdleWorker}
 use Rattle.cap_workers.specs.declared.worker.Worker.{Worker}
 
@@ -14,15 +19,39 @@ use Rattle.cap_workers.specs.declared.worker.Worker.{Worker}
 abbrev pub AllAre : Flat resources → List IdleWorker → Type 0
 AllAre cluster workers = All (λ w. w.cluster.flat ≡ cluster) workers
 
--- these entries are a beginning of what a note of one of the seats had, or there are none
-abbrev pub FollowsOne : List Entry → List Sitting → Type 0
-FollowsOne log [] = ⊥
-FollowsOne log (s ∷ ss) = Follows log s.past ⊎ FollowsOne log ss
+-- a seat that was answered nothing yet
+abbrev pub IsFresh : Sitting → Type 0
+IsFresh s = s.past ≡ []
 
--- what each of these workers has followed is a beginning of what a note of one of the seats had
-abbrev pub AllFollow : List Sitting → List (Worker × Content) → Type 0
-AllFollow seats workers = All (λ w. FollowsOne w.1.log seats) workers
+-- this is one of the seats, and it was answered what this worker did, and nothing else
+pub record IsSeatOf (opening : Flat resources) (limit : ℕ) (seats : List Sitting) (worker : Worker) (seat : Sitting) : Type 0 where
+  pub member : IsIn seat seats
+  pub ended : Option WorkerSide
+  pub works : Works opening limit worker seat ended
+
+abbrev pub HasSeat : Flat resources → ℕ → List Sitting → Worker → Type 0
+HasSeat opening limit seats worker = (seat : Sitting) × IsSeatOf opening limit seats worker seat
+
+-- and what the worker's replica has followed is a beginning of what a note of this seat had, or there are none
+abbrev pub HasLeft : Flat resources → ℕ → List Sitting → Worker × Content → Type 0
+HasLeft opening limit seats w = (seat : Sitting) × IsSeatOf opening limit seats w.0 seat × Follows w.1.log seat.past
+
+abbrev pub AllLeft : Flat resources → ℕ → List Sitting → List (Worker × Content) → Type 0
+AllLeft opening limit seats workers = All (HasLeft opening limit seats) workers
 
 -- what each of these workers has followed is a beginning of the journal
 abbrev pub AllBegin : List Entry → List (Worker × Content) → Type 0
 AllBegin journal workers = All (λ w. IsPrefix w.1.log journal) workers
+
+-- A closed epoch: its journal, at most as long as the limit, leads from the opening to the closing cluster. What its seats were answered fits the
+-- journal, and those of the workers were answered what these did: turns, or offers and commits, and nothing else.
+pub record ClosesEpoch (opening : Flat resources) (limit count : ℕ) (workers : List Worker) (journal : List Entry) (closing : Flat resources) : Type 0 where
+  pub run : Replays opening journal closing
+  pub within : length journal ≤ limit
+  pub tags : TagsBelow count journal
+  pub seats : List Sitting
+  pub all : length seats ≡ count
+  pub once : (x : ℕ) → times x seats ≤ 1
+  pub fit : AllFit journal seats
+  pub honest : AllHonest opening limit seats
+  pub work : All (HasSeat opening limit seats) workers

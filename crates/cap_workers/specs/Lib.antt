@@ -1,6 +1,4 @@
 pub mod Worker
-pub mod Sessions
-pub mod Batches
 pub mod Following
 pub mod Committing
 pub mod Scheduling

@@ -2,8 +2,8 @@
 ghost use Rattle.std.specs.Prelude.{◌≡◌, MatchResult};
 ghost use Rattle.cap_shared.specs.Following.{Follows};
 ghost use Rattle.cap_workers.specs.Committing.{CommitsSome};
-ghost use Rattle.cap_workers.specs.Following.{IsFollowingOffer, IsFollowingTurn, IsUnchosen};
-ghost use Rattle.cap_workers.specs.Worker.{Chooses, IsCommitted, next_turn};
+ghost use Rattle.cap_workers.specs.Following.{CatchesUp, ChoosesNow, IsFollowingOffer, IsFollowingTurn, Notes, TakesPiece};
+ghost use Rattle.cap_workers.specs.Worker.{IsCommitted, next_turn};
 
 use crate::committing::commit_lanes;
 use crate::coordinator::Coordinator;
@@ -14,7 +14,7 @@ use cap_commit::Cluster;
 use cap_lanes::Putter;
 use cap_live::propose_live;
 use cap_model::{NoMemory, Proposal};
-use cap_shared::{Naming, Replica, Seat, Shared};
+use cap_shared::{Naming, Piece, Replica, Seat, Shared};
 use std::alloc::Global;
 use std::marker::Model;
 use std::sync::Wait;
@@ -71,6 +71,14 @@ impl<J: Naming> Follower<J> {
         self.replica.followed()
     }
 
+    /// Takes what was entered since it looked last, with notes of copies, and makes that again. If an allocation fails it has made some of it again, or
+    /// nothing, and goes on from there the next time.
+    pub(crate) fn catch_up<R: Wait>(&mut self, rt: &R, shared: &Shared<J>) -> Result<(), NoMemory>
+        ensures { Notes J.opening self.old self.new }
+    {
+        catch_up(rt, shared, &mut self.seat, &mut self.replica)
+    }
+
     /// What is proposed in this turn on the replica, once it has caught up. If an allocation fails there is no proposal.
     fn choose<R: Wait, G: Gate>(
         &mut self,
@@ -79,16 +87,10 @@ impl<J: Naming> Follower<J> {
         gate: &G,
         turn: Worker,
     ) -> Result<Option<Proposal<RESOURCES>>, NoMemory>
-        ensures { MatchResult result (Chooses J.opening turn.start self.old self.new)
-            (λ _. IsUnchosen J.opening self.old self.new) }
+        ensures { MatchResult result (ChoosesNow J.opening turn.start self.old self.new)
+            (λ _. Notes J.opening self.old self.new) }
     {
-        let news = shared
-            .hold_to_schedule(rt)
-            .news(&mut self.seat, &self.replica);
-        let Ok(news) = news else {
-            return Err(NoMemory);
-        };
-        let Ok(()) = self.replica.catch_up(news) else {
+        let Ok(()) = catch_up(rt, shared, &mut self.seat, &mut self.replica) else {
             return Err(NoMemory);
         };
         gate.at(turn.number, Point::Copied);
@@ -127,10 +129,57 @@ impl<J: Naming> Follower<J> {
     }
 }
 
+/// Takes what was entered since the replica looked last, piece by piece, each with a note of a copy, until it has followed all that the last note has.
+/// If an allocation fails it has followed some of that, or nothing.
+fn catch_up<J: Naming, R: Wait>(
+    rt: &R,
+    shared: &Shared<J>,
+    seat: &mut Seat<J>,
+    replica: &mut Replica<J>,
+) -> Result<(), NoMemory>
+    requires { Follows replica.old.log seat.old.past }
+    ensures caught { MatchResult result (λ _. CatchesUp J.opening replica.new seat.old seat.new)
+        (λ _. Notes J.opening seat.old seat.new) }
+    ensures follows { Follows replica.new.log seat.new.past }
+{
+    for _ in rt.forever() {
+        match take_piece(rt, shared, seat, replica) {
+            Ok(true) => return Ok(()),
+            Ok(false) => {}
+            Err(NoMemory) => return Err(NoMemory),
+        }
+    }
+    unreachable!()
+}
+
+/// Takes a piece of what was entered since the replica looked last, with a note of a copy, and makes it again. Whether that was all. If an allocation
+/// fails it has made some of it again, or nothing.
+fn take_piece<J: Naming, R: Wait>(
+    rt: &R,
+    shared: &Shared<J>,
+    seat: &mut Seat<J>,
+    replica: &mut Replica<J>,
+) -> Result<bool, NoMemory>
+    requires { Follows replica.old.log seat.old.past }
+    ensures taken { MatchResult result (TakesPiece J.opening replica.new seat.old seat.new)
+        (λ _. Notes J.opening seat.old seat.new) }
+    ensures follows { Follows replica.new.log seat.new.past }
+{
+    let Ok(piece) = shared.hold_to_schedule(rt).news(seat, replica) else {
+        return Err(NoMemory);
+    };
+    let Piece { news, are_all } = piece;
+    match replica.catch_up(news) {
+        Ok(()) => Ok(are_all),
+        Err(NoMemory) => Err(NoMemory),
+    }
+}
+
 impl Worker {
     /// Takes a turn, as `turn`, on a replica: under the lock it takes what was entered since the last turn, and notes a copy. Outside of
-    /// the lock the replica makes all of that again, and then is the cluster of the note, on which it proposes. If an allocation fails
-    /// nothing is committed, and the replica goes on from where it is in the next turn.
+    /// the lock the replica makes all of that again, and then is the cluster of the note, on which it proposes. A replica that lags far
+    /// behind takes some pieces of that before, each with a note of its own, so that it holds nobody up. If an allocation fails nothing
+    /// is committed, and the replica goes on from where it is in the next turn.
     pub fn follow<J: Naming, R: Wait, G: Gate>(
         &mut self,
         rt: &R,

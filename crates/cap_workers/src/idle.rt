@@ -1,10 +1,11 @@
 //! A worker between two epochs (`IdleWorker`), and how workers take their clusters from one to the next (`close_epoch`).
-ghost use Rattle.std.specs.Prelude.{◌≡◌, ◌≤◌, ◌+◌, length, map, IfOk};
+ghost use Rattle.std.specs.Prelude.{◌≡◌, ◌≤◌, ◌+◌, [], length, map, IfOk};
 ghost use Rattle.cap_shared.specs.Journal.{Replays};
-ghost use Rattle.cap_workers.specs.Idle.{AllAre, AllBegin, AllFollow};
+ghost use Rattle.cap_shared.specs.WordRule.{fresh};
+ghost use Rattle.cap_workers.specs.Idle.{AllAre, AllBegin, AllLeft, ClosesEpoch};
 
 use crate::follower::Follower;
-use crate::scheduler::Scheduler;
+use crate::scheduler::{Scheduled, Scheduler};
 use crate::worker::Worker;
 use cap_base::RESOURCES;
 use cap_commit::Cluster;
@@ -20,36 +21,35 @@ pub struct IdleWorker {
 }
 
 impl IdleWorker {
-    /// The worker in an epoch that its cluster opens, on this seat.
+    /// The worker in an epoch that its cluster opens, on a seat that was answered nothing yet.
     pub fn begin<J: Naming>(self, alloc: Global, seat: Seat<J>) -> Scheduler<J>
-        requires { self.cluster.flat ≡ J.opening }
+        requires opening { self.cluster.flat ≡ J.opening }
+        requires fresh { seat.past ≡ [] }
         ensures worker { result.worker ≡ self.worker }
         ensures seat { result.follower ≡ seat }
     {
         let IdleWorker { worker, cluster } = self;
-        Scheduler {
-            worker,
-            follower: Follower::open(alloc, seat, cluster),
-        }
+        Scheduler::new(worker, Follower::open(alloc, seat, cluster))
     }
 }
 
-/// Closes an epoch: all its seats come back, some with workers. Each worker makes what its cluster lacks of the journal again, so it can begin in
-/// the next epoch. If an allocation fails the workers and the cluster are given up.
+/// ClosesEpoch an epoch: all its seats come back, some with workers. What each of them was answered is what it did. Each worker makes what its cluster
+/// lacks of the journal again, so it can begin in the next epoch. If an allocation fails the workers and the cluster are given up.
 pub fn close_epoch<J: Naming>(
     alloc: Global,
     shared: Shared<J>,
     seats: Vec<Seat<J>>,
-    schedulers: Vec<Scheduler<J>>,
+    scheduled: Vec<Scheduled<J>>,
 ) -> Result<(Closed, Vec<IdleWorker>), NoMemory>
-    requires { length seats.items + length schedulers.items ≡ J.seats }
-    ensures run { IfOk result (λ left.
-        Replays J.opening left.0.journal.items left.0.cluster.flat) }
-    ensures limit { IfOk result (λ left. length left.0.journal.items ≤ J.limit) }
+    requires { length seats.items + length scheduled.items ≡ J.seats }
+    ensures closes { IfOk result (λ left. ClosesEpoch J.opening J.limit J.seats
+        (map (λ w. w.worker) scheduled.items) left.0.journal.items left.0.cluster.flat) }
     ensures workers { IfOk result (λ left. AllAre left.0.cluster.flat left.1.items) }
+    ensures back { IfOk result (λ left.
+        map (λ w. w.worker) left.1.items ≡ map (λ w. w.worker) scheduled.items) }
 {
     let mut seats = seats;
-    let leaving = leave_all(alloc, &mut seats, schedulers)?;
+    let leaving = leave_all(alloc, &mut seats, scheduled)?;
     let closed = shared.close(seats);
     let workers = carry_on(alloc, leaving, &closed)?;
     Ok((closed, workers))
@@ -60,17 +60,20 @@ pub fn close_epoch<J: Naming>(
 fn leave_all<J: Naming>(
     alloc: Global,
     seats: &mut Vec<Seat<J>>,
-    schedulers: Vec<Scheduler<J>>,
+    scheduled: Vec<Scheduled<J>>,
 ) -> Result<Vec<(Worker, Replica<J>)>, NoMemory>
     ensures seats { IfOk result (λ _.
-        length seats.new.items ≡ length seats.old.items + length schedulers.items) }
-    ensures follow { IfOk result (λ leaving. AllFollow seats.new.items leaving.items) }
+        length seats.new.items ≡ length seats.old.items + length scheduled.items) }
+    ensures left { IfOk result (λ leaving.
+        AllLeft J.opening J.limit seats.new.items leaving.items) }
+    ensures back { IfOk result (λ leaving.
+        map (λ w. w.0) leaving.items ≡ map (λ w. w.worker) scheduled.items) }
 {
-    let Ok(mut leaving) = Vec::with_capacity(alloc, schedulers.len()) else {
+    let Ok(mut leaving) = Vec::with_capacity(alloc, scheduled.len()) else {
         return Err(NoMemory);
     };
-    for scheduler in schedulers {
-        let Scheduler { worker, follower } = scheduler;
+    for one in scheduled {
+        let (worker, follower) = one.into_parts();
         let (seat, replica) = follower.into_parts();
         let Ok(()) = seats.push(seat) else {
             return Err(NoMemory);
@@ -90,7 +93,9 @@ fn carry_on<J: Naming>(
 ) -> Result<Vec<IdleWorker>, NoMemory>
     requires begin { AllBegin closed.now.journal.items leaving.items }
     requires run { Replays J.opening closed.now.journal.items closed.now.cluster.flat }
-    ensures { IfOk result (λ workers. AllAre closed.now.cluster.flat workers.items) }
+    ensures same { IfOk result (λ workers. AllAre closed.now.cluster.flat workers.items) }
+    ensures back { IfOk result (λ workers.
+        map (λ w. w.worker) workers.items ≡ map (λ w. w.0) leaving.items) }
 {
     let Ok(mut workers) = Vec::with_capacity(alloc, leaving.len()) else {
         return Err(NoMemory);
@@ -104,14 +109,15 @@ fn carry_on<J: Naming>(
     Ok(workers)
 }
 
-/// Begins an epoch that the workers' clusters open: each worker takes the last of the seats. If an allocation fails, or there are too few seats,
-/// the workers are given up.
+/// Begins an epoch that the workers' clusters open: each worker takes the last of the seats, as they were opened. If an allocation fails, or there
+/// are too few seats, the workers are given up.
 pub fn begin_epoch<J: Naming>(
     alloc: Global,
     workers: Vec<IdleWorker>,
     seats: &mut Vec<Seat<J>>,
 ) -> Result<Vec<Scheduler<J>>, NoMemory>
-    requires { AllAre J.opening workers.items }
+    requires same { AllAre J.opening workers.items }
+    requires fresh { seats.old.items ≡ fresh 0 J.seats }
     ensures { IfOk result (λ schedulers.
         map (λ s. s.worker) schedulers.items ≡ map (λ w. w.worker) workers.items) }
 {

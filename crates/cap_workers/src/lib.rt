@@ -1,7 +1,6 @@
-//! Workers that take turns over a shared cluster, and sessions whose requests are answered from it.
+//! Workers that take turns over a cluster that threads share.
 #![tactic(auto)]
 
-mod batches;
 mod committing;
 mod coordinator;
 mod follower;
@@ -9,7 +8,6 @@ mod gate;
 mod idle;
 mod pause;
 mod scheduler;
-mod sessions;
 mod worker;
 
 pub use cap_lanes::{Committer, Ended, LanesClosed, PutFault, Putter, lanes};
@@ -18,6 +16,5 @@ pub use coordinator::Coordinator;
 pub use follower::Follower;
 pub use gate::{CommitOutcome, Gate, OpenGate, Point, Tally};
 pub use idle::{IdleWorker, begin_epoch, close_epoch};
-pub use scheduler::{Direction, Scheduler, StopSignal};
-pub use sessions::{EndCause, SessionEnd, serve_session};
+pub use scheduler::{Direction, Scheduled, Scheduler, StopSignal};
 pub use worker::{Offer, OfferEnd, Turn, TurnEnd, Worker};

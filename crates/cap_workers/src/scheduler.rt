@@ -8,7 +8,8 @@
 //! | waiting for an answer | who holds the cluster has committed that | proposing, or resting where memory is wanting |
 //! | resting | the journal has grown and its rest is over | proposing |
 //! | any of these | the journal is full, or the signal is raised | leaving |
-ghost use Rattle.cap_workers.specs.Scheduling.{Offers, Turns};
+ghost use Rattle.std.specs.Prelude.{◌≡◌, []};
+ghost use Rattle.cap_workers.specs.Scheduling.{Offers, Schedules, Turns, Works};
 
 use crate::committing::commit_lanes;
 use crate::coordinator::Coordinator;
@@ -18,6 +19,7 @@ use crate::pause::Pause;
 use crate::worker::{OfferEnd, TurnEnd, Worker};
 use cap_lanes::{Ended, Putter};
 use cap_shared::{Naming, Shared};
+use std::marker::Model;
 use std::sync::Wait;
 use std::time::{Clock, Duration};
 
@@ -70,16 +72,139 @@ impl Next {
     }
 }
 
-/// A worker in an epoch: its seat, and its cluster.
+/// A worker that begins an epoch, with a cluster of its own and a seat that was answered nothing yet.
 #[derive(Drop)]
 pub struct Scheduler<J: Naming> {
-    pub worker: Worker,
-    pub follower: Follower<J>,
+    worker: Worker,
+    follower: Follower<J>,
+    ghost fresh: { follower.past ≡ [] },
+}
+
+/// A worker that has left an epoch. Its seat was answered what it did: turns one after the other, or offers and commits, and nothing else.
+/// Contracts see the worker, what its seat was answered, and the end of its lane, if it had one.
+pub struct Scheduled<J: Naming> {
+    worker: Worker,
+    follower: Follower<J>,
+    ended: Option<Ended>,
+}
+
+impl<J: Naming> Drop for Scheduled<J> {
+    fn drop(self) {
+        let Scheduled {
+            worker: _,
+            follower: _,
+            ended: _,
+        } = self;
+    }
+}
+
+impl<J: Naming> Model for Scheduled<J> {
+    ghost use Rattle.cap_workers.specs.Scheduling.{Work, Works};
+
+    ghost Value = { Work };
+
+    ghost view = { λ s. record { worker = s.worker; seat = s.follower; ended = s.ended } };
+
+    ghost invariant = { λ s. Works J.opening J.limit s.worker s.follower s.ended };
 }
 
 impl<J: Naming> Scheduler<J> {
-    /// Takes turns, and commits what each chooses, until the journal is full or the signal is raised.
+    /// A worker whose seat was answered nothing yet.
+    pub(crate) fn new(worker: Worker, follower: Follower<J>) -> Scheduler<J>
+        requires { follower.past ≡ [] }
+        ensures worker { result.worker ≡ worker }
+        ensures follower { result.follower ≡ follower }
+    {
+        Scheduler { worker, follower }
+    }
+
+    /// The number of the worker.
+    pub fn number(&self) -> u32
+        ensures { result ≡ self.now.worker.number }
+    {
+        self.worker.number
+    }
+
+    /// The worker, and its seat with its cluster, for one that takes its turns itself.
+    pub fn into_parts(self) -> (Worker, Follower<J>)
+        ensures worker { result.0 ≡ self.worker }
+        ensures follower { result.1 ≡ self.follower }
+    {
+        let Scheduler { worker, follower } = self;
+        (worker, follower)
+    }
+
+    /// Takes turns until the journal is full or the signal is raised, and commits what each chooses; with a lane it puts that there, and the
+    /// lane's end last. At the end it takes what was entered until then, so that little is left to do when the epoch is closed.
     pub fn schedule<R: Wait + Clock, G: Gate, S: StopSignal>(
+        self,
+        rt: &R,
+        shared: &Shared<J>,
+        direction: &Direction<'_, S, G>,
+        putter: Option<Putter>,
+    ) -> Scheduled<J>
+        ensures { result.worker.number ≡ self.worker.number }
+    {
+        let Scheduler { worker, follower } = self;
+        let mut turns = Turning { worker, follower };
+        let ended = turns.take(rt, shared, direction, putter);
+        let Turning { worker, follower } = turns;
+        Scheduled {
+            worker,
+            follower,
+            ended,
+        }
+    }
+}
+
+impl<J: Naming> Scheduled<J> {
+    /// The worker, and its seat with its cluster.
+    pub(crate) fn into_parts(self) -> (Worker, Follower<J>)
+        ensures worker { result.0 ≡ self.worker }
+        ensures seat { result.1 ≡ self.seat }
+        ensures works { Works J.opening J.limit self.worker self.seat self.ended }
+    {
+        let Scheduled {
+            worker,
+            follower,
+            ended: _,
+        } = self;
+        (worker, follower)
+    }
+}
+
+/// A worker at its turns.
+#[derive(Drop)]
+struct Turning<J: Naming> {
+    worker: Worker,
+    follower: Follower<J>,
+}
+
+impl<J: Naming> Turning<J> {
+    /// Takes turns as it is to, and then what was entered until then.
+    fn take<R: Wait + Clock, G: Gate, S: StopSignal>(
+        &mut self,
+        rt: &R,
+        shared: &Shared<J>,
+        direction: &Direction<'_, S, G>,
+        putter: Option<Putter>,
+    ) -> Option<Ended>
+        ensures { Schedules J.opening J.limit self.old.worker self.old.follower
+            self.new.worker self.new.follower result }
+    {
+        let ended = match putter {
+            Some(putter) => Some(self.schedule_by_lane(rt, shared, direction, putter)),
+            None => {
+                self.schedule(rt, shared, direction);
+                None
+            }
+        };
+        let _caught_up = self.follower.catch_up(rt, shared);
+        ended
+    }
+
+    /// Takes turns, and commits what each chooses, until the journal is full or the signal is raised.
+    fn schedule<R: Wait + Clock, G: Gate, S: StopSignal>(
         &mut self,
         rt: &R,
         shared: &Shared<J>,
@@ -93,6 +218,7 @@ impl<J: Naming> Scheduler<J> {
             if direction.signal.is_raised(rt) {
                 return;
             }
+            pause.begin_look(rt);
             let end = self
                 .worker
                 .follow(rt, shared, &mut self.follower, direction.gate);
@@ -105,7 +231,7 @@ impl<J: Naming> Scheduler<J> {
 
     /// Takes turns, and puts what each chooses into its lane, until the journal is full or the signal is raised; then it puts its end into the lane.
     /// After each proposal it waits until that is answered.
-    pub fn schedule_by_lane<R: Wait + Clock, G: Gate, S: StopSignal>(
+    fn schedule_by_lane<R: Wait + Clock, G: Gate, S: StopSignal>(
         &mut self,
         rt: &R,
         shared: &Shared<J>,
@@ -138,6 +264,7 @@ impl<J: Naming> Scheduler<J> {
             if direction.signal.is_raised(rt) {
                 return;
             }
+            pause.begin_look(rt);
             let next = self.offer(rt, shared, direction, putter);
             if !self.goes_on(rt, shared, direction.signal, next, &mut pause) {
                 return;
@@ -186,14 +313,17 @@ impl<J: Naming> Scheduler<J> {
     ) -> bool {
         match next {
             Next::Propose => {
-                *pause = Pause::first();
+                pause.begin_anew();
                 return true;
             }
-            Next::Rest => self.rest(rt, shared, signal, pause),
+            Next::Rest => {
+                pause.end_look(rt);
+                self.rest(rt, shared, signal, pause);
+            }
             Next::Retry => pause.wait(rt, signal),
             Next::Leave => return false,
         }
-        !shared.is_full(rt)
+        !shared.is_full()
     }
 
     /// Rests until the journal has grown beyond what the replica has followed, or is full, or the signal is raised.
@@ -207,10 +337,7 @@ impl<J: Naming> Scheduler<J> {
         let seen = self.follower.followed();
         for _ in rt.forever() {
             pause.wait(rt, signal);
-            let held = shared.hold_to_schedule(rt);
-            let (is_full, entries) = (held.is_full(), held.entries());
-            drop(held);
-            if is_full || entries != seen || signal.is_raised(rt) {
+            if shared.is_full() || shared.entries() != seen || signal.is_raised(rt) {
                 return;
             }
         }

@@ -1,6 +1,6 @@
 //! Grants and ends on one cluster, and snapshots of it (`print`).
 
-mod cluster;
+pub mod cluster;
 mod size;
 mod snapshots;
 mod work;

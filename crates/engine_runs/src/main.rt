@@ -6,6 +6,8 @@
 //! snapshots are made. It prints how many bytes the last copy of the parts takes.
 //! The word `info` or `allocate` and two numbers are calls of one kind on one cluster: how many threads make them (0 for
 //! none and no lock), and how many each makes. It prints how many calls were not refused.
+//! The word `follow` and five numbers are nodes, leaf queues, applications, asks of each, and turns of a worker that follows the
+//! journal. It prints how many containers they granted.
 //! The word `echo` and two numbers are a port of 127.0.0.1 and how many connections are accepted there, once `listening`
 //! and the port are printed: each frame that comes on one is written back to it, in a thread for each, until all have ended.
 #![tactic(auto)]
@@ -13,6 +15,7 @@
 mod calls;
 mod commits;
 mod echo;
+mod following;
 
 use std::io::{self, Read};
 
@@ -22,6 +25,8 @@ fn main(rt: HostRuntime) -> io::Result<()> {
     for line in text.lines() {
         if line.starts_with("echo ") {
             echo::print(&rt, rt.alloc(), line)?;
+        } else if line.starts_with("follow ") {
+            following::print(&rt, rt.alloc(), line)?;
         } else if matches!(line.as_bytes().first(), Some(b'0'..=b'9')) {
             commits::print(&rt, rt.alloc(), line)?;
         } else {

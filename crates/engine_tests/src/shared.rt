@@ -1,5 +1,5 @@
 //! A cluster that threads share: what their calls are answered, and what its journal and its receipts say.
 mod audit;
-mod shown;
+mod lagging;
 mod steps;
 mod tests;

@@ -8,7 +8,7 @@ use cap_messages::read_request;
 use cap_model::ReplyWith;
 use cap_shared::{Blank, Naming, Seat, Shared};
 use cap_testing::{Call, TWO_QUEUES, WantedContainers, frame};
-use cap_workers::{IdleWorker, Scheduler, Worker};
+use cap_workers::{IdleWorker, Scheduler, Worker, begin_epoch};
 use std::alloc::Global;
 use std::marker::Brand;
 use std::sync::Wait;
@@ -120,7 +120,13 @@ fn named_epoch<J: Naming, H: Wait + Clock, P: Play>(
     let Ok((shared, mut seats)) = Shared::<J>::open(alloc, blank, cluster, LIMIT) else {
         return None;
     };
+    let Ok(workers) = Vec::from_array(alloc, [worker]) else {
+        return None;
+    };
+    let Ok(mut begun) = begin_epoch(alloc, workers, &mut seats) else {
+        return None;
+    };
+    let own = begun.pop()?;
     let mut caller = seats.pop()?;
-    let own = worker.begin(alloc, seats.pop()?);
     play.play(rt, alloc, &shared, &mut caller, own)
 }

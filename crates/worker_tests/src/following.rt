@@ -44,10 +44,7 @@ impl Play for SixTurns {
         caller: &mut Seat<J>,
         own: Scheduler<J>,
     ) -> Option<Vec<Came>> {
-        let Scheduler {
-            mut worker,
-            mut follower,
-        } = own;
+        let (mut worker, mut follower) = own.into_parts();
         let mut came = Vec::new(alloc);
         call_all(rt, alloc, shared, caller, &THREE_ASKED)?;
         for turn in 0..6 {
@@ -122,10 +119,7 @@ impl Play for ThreeOffers {
         own: Scheduler<J>,
     ) -> Option<[Option<u64>; 3]> {
         let (mut committer, mut putters) = new_lanes(alloc)?;
-        let Scheduler {
-            mut worker,
-            mut follower,
-        } = own;
+        let (mut worker, mut follower) = own.into_parts();
         let putter = putters.first_mut()?;
         let mut seen = [None; 3];
         for place in 0..3 {

@@ -81,20 +81,38 @@ impl Play for Schedule {
             signal: &rests,
             gate: &OpenGate,
         };
-        let mut own = own;
-        own.schedule(rt, shared, &direction);
+        let _scheduled = own.schedule(rt, shared, &direction, None);
         let seen = *rests.pauses.lock(rt);
         let lengths = seen.lengths;
-        Some((lengths, shared.entries(rt)))
+        Some((lengths, shared.entries()))
     }
 }
 
-/// Twice as long each time, up to 10 ms; all that can be granted was granted before the first.
+/// How often the worker is let schedule at most until none of its looks takes longer than a pause.
+const RUNS: usize = 20;
+
+/// Whether no pause is shorter than it may be. A look that takes longer makes the pause after it longer.
+fn are_no_shorter(pauses: &[u128; PAUSES]) -> bool {
+    pauses
+        .iter()
+        .zip(&LENGTHS)
+        .all(|(pause, least)| pause >= least)
+}
+
+/// Twice as long each time, up to 10 ms.
+const LENGTHS: [u128; PAUSES] = [1000, 2000, 4000, 8000, 10_000, 10_000];
+
+/// All that can be granted was granted before the first pause.
 #[test]
 fn a_worker_rests_once_there_is_nothing_to_propose(rt: HostRuntime) {
-    let pauses = [1000, 2000, 4000, 8000, 10_000, 10_000];
     for &(asks, entries) in &[(false, 0), (true, 8)] {
-        let seen = play_in(&rt, rt.alloc(), &Schedule { asks });
-        assert!(rt; seen == Some((pauses, entries)), "{asks}");
+        let mut exact = false;
+        for _ in 0..RUNS {
+            let seen = play_in(&rt, rt.alloc(), &Schedule { asks });
+            let (pauses, made) = seen.unwrap_or(([0; PAUSES], 0));
+            assert!(rt; made == entries && are_no_shorter(&pauses), "{asks}");
+            exact = exact || pauses == LENGTHS;
+        }
+        assert!(rt; exact, "{asks}");
     }
 }

@@ -17,7 +17,7 @@ pub const KEY: Key = Key {
 pub const CONTAINER: [u64; RESOURCES] = [1024, 1, 0];
 
 /// What each node has, room for 65,536 containers.
-const NODE: [u64; RESOURCES] = [1 << 26, 1 << 16, 0];
+pub const NODE: [u64; RESOURCES] = [1 << 26, 1 << 16, 0];
 
 /// What the last node has, less than a container.
 const SMALL_NODE: [u64; RESOURCES] = [512, 1, 0];
@@ -62,7 +62,7 @@ pub fn add_applications(
 }
 
 /// Property lines of so many leaf queues, each with a capacity of 65,536 containers.
-fn put_lines(lines: &mut String, leaves: u64) -> Result<(), AllocError> {
+pub fn put_lines(lines: &mut String, leaves: u64) -> Result<(), AllocError> {
     lines.push_str("yarn.scheduler.capacity.maximum-applications=1000000\n")?;
     lines.push_str("yarn.scheduler.capacity.root.queues=q0")?;
     for leaf in 1..leaves {

@@ -1,3 +1,4 @@
+use Rattle.std.specs.Prelude.{◌≡◌, length}
 use Rattle.cap_base.specs.Limits.{resources}
 use Rattle.cap_model.specs.Flat.{opened_cluster}
 use Rattle.cap_workers.specs.Idle.{AllAre}
@@ -5,4 +6,7 @@ use Rattle.cap_server.proofs.serving.workers_of.Given as goal
 
 -- those so far
 abbrev pub invariant-loop-number : goal.invariant-loop-number
-invariant-loop-number l = AllAre (opened_cluster {K = resources} l.fn.config) l.workers.items
+invariant-loop-number l = record {
+  same : AllAre (opened_cluster {K = resources} l.fn.config) l.workers.items;
+  count : length l.workers.items ≡ l.number;
+}

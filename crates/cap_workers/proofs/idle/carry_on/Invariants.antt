@@ -1,4 +1,4 @@
-use Rattle.cap_workers.proofs.Prelude.{◌≡◌, ◌++◌}
+use Rattle.cap_workers.proofs.Prelude.{◌≡◌, ◌++◌, map}
 use Rattle.cap_workers.specs.Idle.{AllAre}
 use Rattle.cap_workers.proofs.idle.carry_on.Given as goal
 
@@ -7,4 +7,5 @@ abbrev pub invariant-loop-worker : goal.invariant-loop-worker
 invariant-loop-worker g l = record {
   all : l.yielded ++ l.worker-iterator.rest.items ≡ l.fn.leaving.items;
   are : AllAre l.fn.closed.cluster.flat l.workers.items;
+  back : map (λ w. w.worker) l.workers.items ≡ map (λ w. w.0) l.yielded;
 }

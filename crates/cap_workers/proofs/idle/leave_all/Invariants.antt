@@ -1,11 +1,12 @@
-use Rattle.cap_workers.proofs.Prelude.{◌≡◌, ◌+◌, length, ◌++◌}
-use Rattle.cap_workers.specs.Idle.{AllFollow}
+use Rattle.cap_workers.proofs.Prelude.{◌≡◌, ◌+◌, length, map, ◌++◌}
+use Rattle.cap_workers.specs.Idle.{AllLeft}
 use Rattle.cap_workers.proofs.idle.leave_all.Given as goal
 
 -- those who have left so far
-abbrev pub invariant-loop-scheduler : goal.invariant-loop-scheduler
-invariant-loop-scheduler g l = record {
-  all : l.yielded ++ l.scheduler-iterator.rest.items ≡ l.fn.schedulers.items;
+abbrev pub invariant-loop-one : goal.invariant-loop-one
+invariant-loop-one g l = record {
+  all : l.yielded ++ l.one-iterator.rest.items ≡ l.fn.scheduled.items;
   count : length l.seats.items ≡ length l.fn.seats.items + length l.yielded;
-  follow : AllFollow l.seats.items l.leaving.items;
+  left : AllLeft g.J.Naming.opening g.J.Naming.limit l.seats.items l.leaving.items;
+  back : map (λ w. w.0) l.leaving.items ≡ map (λ w. w.worker) l.yielded;
 }

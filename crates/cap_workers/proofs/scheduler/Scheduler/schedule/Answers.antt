@@ -1,12 +1,8 @@
-use Rattle.cap_workers.specs.Scheduling.{turns_none}
-use Rattle.cap_workers.proofs.Turns.{one_turn}
+use Rattle.cap_workers.proofs.Turns.{schedules_number, works_from}
 use Rattle.cap_workers.proofs.scheduler.Scheduler.schedule.Goals as goal
 
-pub loop-init : goal.loop-init
-loop-init g c = turns_none
+pub invariant_of-result : goal.invariant_of-result
+invariant_of-result g c = works_from g.J.Naming.opening g.J.Naming.limit c.args.self.worker c.args.self.follower _ _ c.take-ended.result c.args.self.fresh c.take-ended.ensures
 
-pub returns-then-not-goes_on : goal.returns-then-not-goes_on
-returns-then-not-goes_on g c = one_turn c.follow-end.new.self c.follow-end.result c.loop.invariant c.follow-end.ensures.start c.follow-end.ensures.turn
-
-pub loop-preserved : goal.loop-preserved
-loop-preserved g c = one_turn c.follow-end.new.self c.follow-end.result c.loop.invariant c.follow-end.ensures.start c.follow-end.ensures.turn
+pub returns : goal.returns
+returns g c = schedules_number g.J.Naming.opening g.J.Naming.limit c.args.self.worker c.args.self.follower _ _ c.take-ended.result c.take-ended.ensures

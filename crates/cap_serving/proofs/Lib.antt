@@ -1,0 +1,6 @@
+mod Prelude
+mod Receipts
+mod Answering
+mod Streams
+mod Rounds
+mod Together
