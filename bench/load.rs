@@ -6,6 +6,8 @@
 //!     load cluster PORT NODES APPS QUEUES SECONDS   a cluster in which containers are asked for, granted and ended all the time, over 9 connections
 //!     load busy PORT NODES MASTERS QUEUES SECONDS   node managers, masters and an operator, each on a connection of its own, that call as fast as they are answered
 //!     load fill PORT NODES APPS QUEUES CONTAINERS   an empty cluster, in which all applications ask for so many containers together before all nodes register at once
+//!     load beside PORT NODES APPS ASKS SECONDS      a master that asks, releases and asks again, beside APPS applications of one client with ASKS asks each that no node can take:
+//!                                                   in turn for hosts and for racks that are not there, and for more than any node has
 //!     load quiet PORT CONNECTIONS NODES SECONDS PID connections to the process PID that say nothing, once the first has registered the nodes
 //!     load stopped PORT CONNECTIONS PID             calls on each connection before and after the process PID is stopped and continues
 //!
@@ -82,6 +84,9 @@ fn main() -> Result<()> {
         }
         (Some("fill"), &[port, nodes, apps, queues, containers]) => {
             fill(port, nodes, apps, queues, containers)?
+        }
+        (Some("beside"), &[port, nodes, apps, asks, seconds]) => {
+            beside(port, nodes, apps, asks, seconds as u64)?
         }
         (Some("quiet"), &[port, connections, nodes, seconds, pid]) => {
             quiet(port, connections, nodes, seconds as u64, pid)?
@@ -454,6 +459,67 @@ fn await_live(measured: &mut Connection, wanted: u64) -> Result<u64> {
         }
         thread::sleep(LOOK);
     }
+}
+
+/// An ask that no node can take: for a host or a rack that is not there, or for more than any node has.
+fn put_impossible(body: &mut Vec<u8>, number: usize) {
+    body.extend_from_slice(&(number as u32).to_be_bytes());
+    body.extend_from_slice(&1u64.to_be_bytes());
+    body.extend_from_slice(&1u32.to_be_bytes());
+    let (memory, place) = match number % 3 {
+        0 => (1024, format!("absent{number}")),
+        1 => (1024, format!("/absent{number}")),
+        _ => (1 << 20, "*".to_owned()),
+    };
+    put_resource(body, memory, 1);
+    put_text(body, &place);
+}
+
+/// A master asks, releases and asks again, beside applications of another client whose asks no node can take. Prints how many containers a second it was
+/// granted, and how long ClusterInfos took meanwhile.
+fn beside(port: usize, nodes: usize, apps: usize, asks: usize, seconds: u64) -> Result<()> {
+    let mut measured = Connection::open(port)?;
+    let mut managers = Lane::open(port)?;
+    for index in 0..nodes {
+        managers.add_node(&format!("n{index}"))?;
+    }
+    let mut others = Lane::open(port)?;
+    for _ in 0..apps {
+        others.add_app("root.q2")?;
+    }
+    for app in &others.callers {
+        let mut body = app.number.to_be_bytes().to_vec();
+        body.extend_from_slice(&app.response.to_be_bytes());
+        body.extend_from_slice(&(asks as u16).to_be_bytes());
+        for number in 0..asks {
+            put_impossible(&mut body, number);
+        }
+        body.extend_from_slice(&0u16.to_be_bytes());
+        others.connection.call(ALLOCATE, &body)?;
+    }
+    let master = Master::open(port, "root.q1")?;
+    let (ends, calls, granted) = (AtomicBool::new(false), AtomicU64::new(0), AtomicU64::new(0));
+    thread::scope(|scope| {
+        let (ends, calls, granted) = (&ends, &calls, &granted);
+        let asking = scope.spawn(move || master.run(ends, calls, granted));
+        thread::sleep(WARM_UP);
+        let before = granted.load(SeqCst);
+        let begin = Instant::now();
+        let mut times = Vec::new();
+        while begin.elapsed() < Duration::from_secs(seconds) {
+            let sent = Instant::now();
+            measured.call(CLUSTER_INFO, &[])?;
+            times.push(sent.elapsed());
+            thread::sleep(PAUSE);
+        }
+        let made = granted.load(SeqCst) - before;
+        let passed = begin.elapsed().as_secs_f64();
+        ends.store(true, SeqCst);
+        asking.join().map_err(|_| "a thread has panicked")??;
+        println!("{:.0} containers a second were granted to the master", made as f64 / passed);
+        print_times(times);
+        Ok(())
+    })
 }
 
 /// What the threads of a cluster share.

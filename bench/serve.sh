@@ -6,7 +6,8 @@
 # takes 5 ms or more. Then a cluster of 512 nodes, 64 leaf queues and 256 applications, in which masters ask and nodes end all that runs on them every 100
 # ms: grants a second by 1, 2 and 4 workers, without a committer (lanes=0) and with lanes of so many places to one, and how long a ClusterInfo takes
 # meanwhile; fails where its 99th percentile with 4 workers and 64 places is above 60 ms, or where more workers make fewer grants than 1. Then an empty
-# cluster that fills once all nodes register, in four sizes: containers a second by 1 and 2 workers. Then a busy cluster: 60 node managers that heartbeat, 60
+# cluster that fills once all nodes register, in four sizes: containers a second by 1 and 2 workers. Then a master that asks, releases and asks again in 512
+# nodes, alone and beside applications whose asks no node can take: containers a second. Then a busy cluster: 60 node managers that heartbeat, 60
 # masters that ask, release and ask again, in queues at their maxima, and an operator, each as fast as it is answered, and all answers are held against each
 # other: grants a second and how many proposals are rejected for each that is made, by 1, 2 and 4 workers, directly and through 64 places, the run in the
 # middle of five, in turn; fails where 4 workers make fewer than 5,000 grants a second or fewer than 1 worker, where they make less than 0.9 of that through
@@ -181,6 +182,22 @@ for size in '64 64' '512 256' '4096 2048' '4096 10000'; do
     undisturbed run_fill "$workers" "$nodes" "$apps"
     echo "fill, nodes=$nodes applications=$apps workers=$workers: $(cat "$work/loaded"); $(tail -n 1 "$work/messages")"
   done
+done
+
+awk 'BEGIN {
+  print "yarn.scheduler.capacity.root.queues=q1,q2"
+  for (i = 1; i <= 2; i++) print "yarn.scheduler.capacity.root.q" i ".capacity=[memory=16777216,vcores=16384]"
+  print "yarn.scheduler.maximum-allocation-mb=2097152"
+}' >"$work/config"
+# run_beside APPS: how fast a master is granted containers in 512 nodes, beside so many applications whose 256 asks no node can take
+run_beside() {
+  port=$("$work/load" port)
+  serve 1 4 0
+  load beside "$port" 512 "$1" 256 "$seconds"
+}
+for apps in 0 1 10 100; do
+  undisturbed run_beside "$apps"
+  echo "beside $apps applications whose asks no node can take: $(figure 'containers a second were') containers a second; $(figure 'microseconds at the 99th') us at the 99th percentile of a ClusterInfo"
 done
 
 awk 'BEGIN {
