@@ -63,7 +63,7 @@ module _ (u v w : ℕ → ℕ) (r : Rounds u v w) (n : ℕ) (few : n ≤ resourc
   queue_is_small = let a = queue_few in omega (arith, a)
 
   abbrev branch : ℕ
-  branch = u (v (u (u (0 + queue) + 24) + 24) + 1)
+  branch = u (v (u (u (u (0 + queue) + 24) + 24) + 24) + 1)
 
   abbrev tree : ℕ
   tree = u (u (0 + branch) + 80)
@@ -73,11 +73,12 @@ module _ (u v w : ℕ → ℕ) (r : Rounds u v w) (n : ℕ) (few : n ≤ resourc
       let a = queue_few in
       let b = r.eights (0 + queue) in
       let c = r.eights (u (0 + queue) + 24) in
-      let d = r.ones (u (u (0 + queue) + 24) + 24) in
-      let e = r.eights (v (u (u (0 + queue) + 24) + 24) + 1) in
-      let f = r.eights (0 + branch) in
-      let g = r.eights (u (0 + branch) + 80) in
-      omega (arith, a, b, c, d, e, f, g)
+      let d = r.eights (u (u (0 + queue) + 24) + 24) in
+      let e = r.ones (u (u (u (0 + queue) + 24) + 24) + 24) in
+      let f = r.eights (v (u (u (u (0 + queue) + 24) + 24) + 24) + 1) in
+      let g = r.eights (0 + branch) in
+      let h = r.eights (u (0 + branch) + 80) in
+      omega (arith, a, b, c, d, e, f, g, h)
 
   abbrev report : ℕ
   report = u (w (u (u (8 + amounts) + maximum) + amounts) + 4)

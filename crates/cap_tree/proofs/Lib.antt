@@ -8,6 +8,7 @@ pub mod Finds
 pub mod Growing
 pub mod Listings
 pub mod Looking
+pub mod Moves
 pub mod Names
 pub mod OneUser
 pub mod Orders

@@ -1,9 +1,16 @@
 -- Indexes of children that are kept in the order of service.
 use denote.Ref.{Bor}
-use Rattle.cap_tree.proofs.Prelude.{◌≡◌, ℕ, true, false, ◌+◌, ◌-◌, ◌<◌, ◌≤◌, Bool, List, [], ◌∷◌, length, get_or, Option, Some, None, refl, sym, ◌∙◌, ap, arith, subst, inl, inr, ◌⊎◌, IfSome, MatchOption, is_some, nat_lt, All, insert, slice_get, option_cmp, option_copied, ordering_reverse, is_gt, is_lt, Ordering, Less, Equal, Greater, IsTotalOrder, options_total, cases_lt, ltb-false, ltb-true, tied_itself, get_or_default, get_or_past, get_or-insert_at, get_or-insert_below, get_or-insert_above, length-insert, slice_get-get_or, slice_get_past, slice_get_read, holds_of, AreSpots, AreApart, AreSorted, ComesAfter, HasNoneAfter, HasPathsOnce, IsFirstAfter, IsOrderOf, IsPlaceAfter, IsThere, IsTop, child_cmp, child_item, children_at, kid_items, that_pass, Spot, HoldsOfItem, item_at, spots, is_ne, ordering_then}
+use Rattle.cap_tree.proofs.Prelude.{◌≡◌, ℕ, true, false, ◌+◌, ◌-◌, ◌<◌, ◌≤◌, Bool, List, [], ◌∷◌, length, get_or, Option, Some, None, refl, sym, ◌∙◌, ap, arith, subst, inl, inr, ◌⊎◌, IfSome, MatchOption, is_some, nat_lt, All, insert, slice_get, option_cmp, option_copied, ordering_reverse, is_gt, is_lt, Ordering, Less, Equal, Greater, IsTotalOrder, options_total, cases_lt, ltb-false, ltb-true, tied_itself, get_or_default, get_or_past, get_or-insert_at, get_or-insert_below, get_or-insert_above, length-insert, length-remove, get_or-remove_above, get_or-remove_below, remove, slice_get-get_or, slice_get_past, slice_get_read, holds_of, AreSpots, AreApart, AreSorted, ComesAfter, HasNoneAfter, HasPathsOnce, IsFirstAfter, IsOrderOf, IsOrderOfOthers, IsPlaceAfter, IsTakenOut, was_at, was_nowhere, IsThere, IsTop, child_cmp, child_item, children_at, kid_items, that_pass, Spot, HoldsOfItem, item_at, spots, is_ne, ordering_then}
 use Rattle.cap_tree.proofs.Service.{less_is, not_less, passing_there, there_passing, there_within}
 use Rattle.cap_tree.proofs.Spots.{item_at-spots}
 use Rattle.cap_tree.proofs.Walks.{two, within}
+
+-- two numbers are the same or not
+same_or_not : (j i : ℕ) → (j ≡ i) ⊎ ¬ (j ≡ i)
+same_or_not j i = elim (cases_lt j i) [
+  | inl l ↦ inr (λ e. omega (arith, l, e))
+  | inr g ↦ elim (cases_lt i j) [ inl l ↦ inr (λ e. omega (arith, l, e)) | inr h ↦ inl (omega (arith, g, h)) ]
+]
 
 module _ {T : Type 0} (order : T → T → Ordering) (total : IsTotalOrder order) (child : ℕ → Option T) where
   items_total : IsTotalOrder (option_cmp order)
@@ -54,38 +61,31 @@ module _ {T : Type 0} (order : T → T → Ordering) (total : IsTotalOrder order
             ]
           ]
 
-  -- one more child, or none of that number
+  -- one of the children is put in, or left out
 
-  pub none_yet : IsOrderOf order child 0 []
-  none_yet = record {
-    sorted = record { there = λ a lt. absurd (omega (arith, lt)); rises = λ a b lt lb. absurd (omega (arith, lb)) };
-    early = λ a lt. absurd (omega (arith, lt));
-    all = λ j lt t. absurd (omega (arith, lt));
-  }
-
-  module _ (k : ℕ) (is : List ℕ) (of : IsOrderOf order child k is) where
-    pub left_out : ¬ IsThere order child k → IsOrderOf order child (k + 1) is
-    left_out none = record {
+  module _ (count i : ℕ) (is : List ℕ) (of : IsOrderOfOthers order child count i is) where
+    pub left_as_it_is : ¬ IsThere order child i → IsOrderOf order child count is
+    left_as_it_is none = record {
       sorted = of.sorted;
-      early = λ a lt. let e = of.early a lt in omega (arith, e);
-      all = λ j lt t. elim (cases_lt j k) [ inl l ↦ of.all j l t | inr g ↦ absurd (none (subst (IsThere order child) (let e : j ≡ k = omega (arith, lt, g) in e) t)) ];
+      early = of.early;
+      all = λ j lt t. of.all j lt (λ e. none (subst (IsThere order child) e t)) t;
     }
 
-    module _ (x : T) (at : child k ≡ Some x) (apart : AreApart order child) (place : ℕ) (put : IsPlaceAfter order child x is place) where
-      many : length (insert is place k) ≡ length is + 1
-      many = length-insert is place k put.within
+    module _ (x : T) (at : child i ≡ Some x) (apart : AreApart order child) (place : ℕ) (put : IsPlaceAfter order child x is place) (within : i < count) where
+      many : length (insert is place i) ≡ length is + 1
+      many = length-insert is place i put.within
 
-      there : IsThere order child k
+      there : IsThere order child i
       there = subst (HoldsOfItem (λ _. Unit {0})) (sym at) tt
 
-      before : (a : ℕ) → a < place → get_or (insert is place k) a 0 ≡ get_or is a 0
-      before a l = get_or-insert_below is place k 0 a l put.within
+      before : (a : ℕ) → a < place → get_or (insert is place i) a 0 ≡ get_or is a 0
+      before a l = get_or-insert_below is place i 0 a l put.within
 
-      here : (a : ℕ) → a ≡ place → get_or (insert is place k) a 0 ≡ k
-      here a e = ap (λ b. get_or (insert is place k) b 0) e ∙ get_or-insert_at is place k 0 put.within
+      here : (a : ℕ) → a ≡ place → get_or (insert is place i) a 0 ≡ i
+      here a e = ap (λ b. get_or (insert is place i) b 0) e ∙ get_or-insert_at is place i 0 put.within
 
-      behind : (a : ℕ) → place < a → get_or (insert is place k) a 0 ≡ get_or is (a - 1) 0
-      behind a l = ap (λ b. get_or (insert is place k) b 0) (let e : a ≡ (a - 1) + 1 = omega (arith, l) in e) ∙ get_or-insert_above is place k 0 (a - 1) (omega (arith, l)) put.within
+      behind : (a : ℕ) → place < a → get_or (insert is place i) a 0 ≡ get_or is (a - 1) 0
+      behind a l = ap (λ b. get_or (insert is place i) b 0) (let e : a ≡ (a - 1) + 1 = omega (arith, l) in e) ∙ get_or-insert_above is place i 0 (a - 1) (omega (arith, l)) put.within
 
       abbrev Where : ℕ → Type 0
       Where a = (a < place) ⊎ ((a ≡ place) ⊎ (place < a))
@@ -94,59 +94,152 @@ module _ {T : Type 0} (order : T → T → Ordering) (total : IsTotalOrder order
       where_is a = elim (cases_lt a place) [ inl l ↦ inl l | inr g ↦ inr (elim (cases_lt place a) [ inl l ↦ inr l | inr h ↦ inl (omega (arith, g, h)) ]) ]
 
       -- those before the place come before it
-      sooner : (a : ℕ) → a < place → child_cmp order child (get_or is a 0) k ≡ Less
-      sooner a l = by (option_cmp order (child k) (child (get_or is a 0))) refl
+      sooner : (a : ℕ) → a < place → child_cmp order child (get_or is a 0) i ≡ Less
+      sooner a l = by (option_cmp order (child i) (child (get_or is a 0))) refl
         where
           lt : a < length is
           lt = let w = put.within in omega (arith, l, w)
 
-          by : (o : Ordering) → option_cmp order (child k) (child (get_or is a 0)) ≡ o → child_cmp order child (get_or is a 0) k ≡ Less
+          by : (o : Ordering) → option_cmp order (child i) (child (get_or is a 0)) ≡ o → child_cmp order child (get_or is a 0) i ≡ Less
           by Less e = absurd (put.before a l (subst (λ y. option_cmp order y (child (get_or is a 0)) ≡ Less) at e))
-          by Equal e = absurd (let same = apart k (get_or is a 0) there (of.sorted.there a lt) e in let n = of.early a lt in omega (arith, same, n))
-          by Greater e = items_total.antisymm (child (get_or is a 0)) (child k) ∙ ap ordering_reverse e
+          by Equal e = absurd (of.none a lt (sym (apart i (get_or is a 0) there (of.sorted.there a lt) e)))
+          by Greater e = items_total.antisymm (child (get_or is a 0)) (child i) ∙ ap ordering_reverse e
 
-      later : (a : ℕ) → place ≤ a → a < length is → child_cmp order child k (get_or is a 0) ≡ Less
+      later : (a : ℕ) → place ≤ a → a < length is → child_cmp order child i (get_or is a 0) ≡ Less
       later a le lt = subst (λ y. option_cmp order y (child (get_or is a 0)) ≡ Less) (sym at) (put.after a le lt)
 
-      pub put_in : IsOrderOf order child (k + 1) (insert is place k)
-      put_in = record {
+      pub put_between : IsOrderOf order child count (insert is place i)
+      put_between = record {
         sorted = record {
           there = λ a lt. there_cases a lt (where_is a);
           rises = λ a b lt lb. rises_cases a b lt lb (where_is a) (where_is b);
         };
         early = λ a lt. early_cases a lt (where_is a);
-        all = λ j lt t. elim (cases_lt j k) [
-          | inl l ↦ (let r = of.all j l t in all_cases j r.0 r.1 r.2)
-          | inr g ↦ (place, let w = put.within in omega (arith, many, w), here place refl ∙ (let e : k ≡ j = omega (arith, lt, g) in e))
-        ];
+        all = λ j lt t. all_or j lt t (same_or_not j i);
       }
         where
-          there_cases : (a : ℕ) → a < length (insert is place k) → Where a → IsThere order child (get_or (insert is place k) a 0)
+          there_cases : (a : ℕ) → a < length (insert is place i) → Where a → IsThere order child (get_or (insert is place i) a 0)
           there_cases a lt (inl l) = subst (IsThere order child) (sym (before a l)) (of.sorted.there a (let w = put.within in omega (arith, l, w)))
           there_cases a lt (inr (inl e)) = subst (IsThere order child) (sym (here a e)) there
           there_cases a lt (inr (inr l)) = subst (IsThere order child) (sym (behind a l)) (of.sorted.there (a - 1) (omega (arith, lt, many, l)))
 
-          early_cases : (a : ℕ) → a < length (insert is place k) → Where a → get_or (insert is place k) a 0 < k + 1
+          early_cases : (a : ℕ) → a < length (insert is place i) → Where a → get_or (insert is place i) a 0 < count
           early_cases a lt (inl l) = let e = before a l in let n = of.early a (let w = put.within in omega (arith, l, w)) in omega (arith, e, n)
-          early_cases a lt (inr (inl s)) = let e = here a s in omega (arith, e)
+          early_cases a lt (inr (inl s)) = let e = here a s in omega (arith, e, within)
           early_cases a lt (inr (inr l)) = let e = behind a l in let n = of.early (a - 1) (omega (arith, lt, many, l)) in omega (arith, e, n)
 
-          rises_cases : (a b : ℕ) → a < b → b < length (insert is place k) → Where a → Where b → child_cmp order child (get_or (insert is place k) a 0) (get_or (insert is place k) b 0) ≡ Less
-          rises_cases a b lt lb (inl l) (inl m) = (λ i. child_cmp order child (before a l i) (before b m i)) ∙ of.sorted.rises a b lt (let w = put.within in omega (arith, m, w))
-          rises_cases a b lt lb (inl l) (inr (inl e)) = (λ i. child_cmp order child (before a l i) (here b e i)) ∙ sooner a l
-          rises_cases a b lt lb (inl l) (inr (inr m)) = (λ i. child_cmp order child (before a l i) (behind b m i)) ∙ of.sorted.rises a (b - 1) (omega (arith, l, m)) (omega (arith, lb, many, m))
-          rises_cases a b lt lb (inr (inl e)) (inr (inr m)) = (λ i. child_cmp order child (here a e i) (behind b m i)) ∙ later (b - 1) (omega (arith, m)) (omega (arith, lb, many, m))
-          rises_cases a b lt lb (inr (inr l)) (inr (inr m)) = (λ i. child_cmp order child (behind a l i) (behind b m i)) ∙ of.sorted.rises (a - 1) (b - 1) (omega (arith, lt, l, m)) (omega (arith, lb, many, m))
+          rises_cases : (a b : ℕ) → a < b → b < length (insert is place i) → Where a → Where b → child_cmp order child (get_or (insert is place i) a 0) (get_or (insert is place i) b 0) ≡ Less
+          rises_cases a b lt lb (inl l) (inl m) = (λ k. child_cmp order child (before a l k) (before b m k)) ∙ of.sorted.rises a b lt (let w = put.within in omega (arith, m, w))
+          rises_cases a b lt lb (inl l) (inr (inl e)) = (λ k. child_cmp order child (before a l k) (here b e k)) ∙ sooner a l
+          rises_cases a b lt lb (inl l) (inr (inr m)) = (λ k. child_cmp order child (before a l k) (behind b m k)) ∙ of.sorted.rises a (b - 1) (omega (arith, l, m)) (omega (arith, lb, many, m))
+          rises_cases a b lt lb (inr (inl e)) (inr (inr m)) = (λ k. child_cmp order child (here a e k) (behind b m k)) ∙ later (b - 1) (omega (arith, m)) (omega (arith, lb, many, m))
+          rises_cases a b lt lb (inr (inr l)) (inr (inr m)) = (λ k. child_cmp order child (behind a l k) (behind b m k)) ∙ of.sorted.rises (a - 1) (b - 1) (omega (arith, lt, l, m)) (omega (arith, lb, many, m))
           rises_cases a b lt lb (inr (inl e)) (inl m) = absurd (omega (arith, lt, e, m))
           rises_cases a b lt lb (inr (inl e)) (inr (inl f)) = absurd (omega (arith, lt, e, f))
           rises_cases a b lt lb (inr (inr l)) (inl m) = absurd (omega (arith, lt, l, m))
           rises_cases a b lt lb (inr (inr l)) (inr (inl f)) = absurd (omega (arith, lt, l, f))
 
-          all_cases : (j a : ℕ) → a < length is → get_or is a 0 ≡ j → (b : ℕ) × (b < length (insert is place k)) × (get_or (insert is place k) b 0 ≡ j)
+          all_cases : (j a : ℕ) → a < length is → get_or is a 0 ≡ j → (b : ℕ) × (b < length (insert is place i)) × (get_or (insert is place i) b 0 ≡ j)
           all_cases j a lt e = elim (cases_lt a place) [
             | inl l ↦ (a, omega (arith, lt, many), before a l ∙ e)
-            | inr g ↦ (a + 1, omega (arith, lt, many), get_or-insert_above is place k 0 a g put.within ∙ e)
+            | inr g ↦ (a + 1, omega (arith, lt, many), get_or-insert_above is place i 0 a g put.within ∙ e)
           ]
+
+          all_or : (j : ℕ) → j < count → IsThere order child j → (j ≡ i) ⊎ ¬ (j ≡ i) → (b : ℕ) × (b < length (insert is place i)) × (get_or (insert is place i) b 0 ≡ j)
+          all_or j lt t (inl e) = (place, let w = put.within in omega (arith, many, w), here place refl ∙ sym e)
+          all_or j lt t (inr not) = let r = of.all j lt not t in all_cases j r.0 r.1 r.2
+
+  -- the children that are in order are the others of one more
+  pub others_of : (k : ℕ) (is : List ℕ) → IsOrderOf order child k is → IsOrderOfOthers order child (k + 1) k is
+  others_of k is of = record {
+    sorted = of.sorted;
+    early = λ a lt. let e = of.early a lt in omega (arith, e);
+    none = λ a lt e. let n = of.early a lt in omega (arith, n, e);
+    all = λ j lt not t. elim (cases_lt j k) [ inl l ↦ of.all j l t | inr g ↦ absurd (not (omega (arith, lt, g))) ];
+  }
+
+  -- one child is changed, and its index taken out
+
+  module _ (before : ℕ → Option T) (count i : ℕ) (old : List ℕ) (was : IsOrderOf order before count old) (same : (j : ℕ) → ¬ (j ≡ i) → before j ≡ child j) where
+    there_yet : (j : ℕ) → ¬ (j ≡ i) → IsThere order before j → IsThere order child j
+    there_yet j not t = subst (HoldsOfItem (λ _. Unit {0})) (same j not) t
+
+    there_before : (j : ℕ) → ¬ (j ≡ i) → IsThere order child j → IsThere order before j
+    there_before j not t = subst (HoldsOfItem (λ _. Unit {0})) (sym (same j not)) t
+
+    less_yet : (j k : ℕ) → ¬ (j ≡ i) → ¬ (k ≡ i) → child_cmp order before j k ≡ Less → child_cmp order child j k ≡ Less
+    less_yet j k nj nk l = (λ h. option_cmp order (sym (same j nj) h) (sym (same k nk) h)) ∙ l
+
+    others_in : ((a : ℕ) → a < length old → ¬ (get_or old a 0 ≡ i)) → IsOrderOfOthers order child count i old
+    others_in none = record {
+      sorted = record {
+        there = λ a lt. there_yet (get_or old a 0) (none a lt) (was.sorted.there a lt);
+        rises = λ a b lt lb. less_yet (get_or old a 0) (get_or old b 0) (none a (omega (arith, lt, lb))) (none b lb) (was.sorted.rises a b lt lb);
+      };
+      early = was.early;
+      none = none;
+      all = λ j lt not t. was.all j lt (there_before j not t);
+    }
+
+    module _ (place : ℕ) (within : place < length old) (at : get_or old place 0 ≡ i) where
+      fewer : length (remove old place) + 1 ≡ length old
+      fewer = length-remove old place within
+
+      no_other : (b : ℕ) → b < length old → ¬ (b ≡ place) → ¬ (get_or old b 0 ≡ i)
+      no_other b lt not e = elim (cases_lt b place) [
+        | inl l ↦ twice (was.sorted.rises b place l within) (e ∙ sym at)
+        | inr g ↦ elim (cases_lt place b) [ inl l ↦ twice (was.sorted.rises place b l lt) (at ∙ sym e) | inr h ↦ not (omega (arith, g, h)) ]
+      ]
+        where
+          twice : {j k : ℕ} → child_cmp order before j k ≡ Less → j ≡ k → ⊥
+          twice {j} {k} less e = let t = tied_itself items_total (before k) in let l = subst (λ h. child_cmp order before h k ≡ Less) e less in cc (t, l)
+
+      -- where an index stood of those that are left
+      record Stood (a : ℕ) : Type 0 where
+        b : ℕ
+        lt : b < length old
+        other : ¬ (b ≡ place)
+        is : get_or (remove old place) a 0 ≡ get_or old b 0
+        from : ((a < place) × (b ≡ a)) ⊎ ((place ≤ a) × (b ≡ a + 1))
+
+      stood : (a : ℕ) → a < length (remove old place) → Stood a
+      stood a lt = elim (cases_lt a place) [
+        | inl l ↦ record { b = a; lt = omega (arith, l, within); other = λ e. omega (arith, l, e); is = get_or-remove_below old place 0 a l within; from = inl (l, refl) }
+        | inr g ↦ record { b = a + 1; lt = omega (arith, lt, fewer); other = λ e. omega (arith, g, e); is = get_or-remove_above old place 0 a g within; from = inr (g, refl) }
+      ]
+
+      later_stood : (a c : ℕ) → a < c → (s : Stood a) (t : Stood c) → s.b < t.b
+      later_stood a c lt s t = elim s.from [
+        | inl f ↦ elim t.from [ inl h ↦ (let x = f.1 in let y = h.1 in omega (arith, lt, x, y)) | inr h ↦ (let x = f.1 in let y = h.1 in omega (arith, lt, x, y)) ]
+        | inr f ↦ elim t.from [ inl h ↦ (let w = f.0 in let z = h.0 in absurd (omega (arith, lt, w, z))) | inr h ↦ (let x = f.1 in let y = h.1 in omega (arith, lt, x, y)) ]
+      ]
+
+      others_left : IsOrderOfOthers order child count i (remove old place)
+      others_left = record {
+        sorted = record {
+          there = λ a lt. let s = stood a lt in subst (IsThere order child) (sym s.is) (there_yet (get_or old s.b 0) (no_other s.b s.lt s.other) (was.sorted.there s.b s.lt));
+          rises = λ a c lt lc.
+              let s = stood a (omega (arith, lt, lc)) in
+              let t = stood c lc in
+              (λ h. child_cmp order child (s.is h) (t.is h)) ∙ less_yet (get_or old s.b 0) (get_or old t.b 0) (no_other s.b s.lt s.other) (no_other t.b t.lt t.other) (was.sorted.rises s.b t.b (later_stood a c lt s t) t.lt);
+        };
+        early = λ a lt. let s = stood a lt in let e = was.early s.b s.lt in let h = s.is in omega (arith, e, h);
+        none = λ a lt e. let s = stood a lt in no_other s.b s.lt s.other (sym s.is ∙ e);
+        all = λ j lt not t. let r = was.all j lt (there_before j not t) in where_now j not r.0 r.1 r.2;
+      }
+        where
+          where_now : (j : ℕ) → ¬ (j ≡ i) → (b : ℕ) → b < length old → get_or old b 0 ≡ j → (a : ℕ) × (a < length (remove old place)) × (get_or (remove old place) a 0 ≡ j)
+          where_now j not b lt e = elim (cases_lt b place) [
+            | inl l ↦ (b, omega (arith, l, within, fewer), get_or-remove_below old place 0 b l within ∙ e)
+            | inr g ↦ elim (cases_lt place b) [
+              | inl l ↦ (b - 1, omega (arith, l, lt, fewer), get_or-remove_above old place 0 (b - 1) (omega (arith, l)) within ∙ ap (λ k. get_or old k 0) (let f : (b - 1) + 1 ≡ b = omega (arith, l) in f) ∙ e)
+              | inr h ↦ absurd (not (sym e ∙ ap (λ k. get_or old k 0) (let f : b ≡ place = omega (arith, g, h) in f) ∙ at))
+            ]
+          ]
+
+    pub taken_out : (new : List ℕ) → IsTakenOut i old new → IsOrderOfOthers order child count i new
+    taken_out new (was_at place within at is) = subst (IsOrderOfOthers order child count i) (sym is) (others_left place within at)
+    taken_out new (was_nowhere none is) = subst (IsOrderOfOthers order child count i) (sym is) (others_in none)
 
 -- the children of an item, by their indexes
 

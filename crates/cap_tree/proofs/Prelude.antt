@@ -5,7 +5,7 @@ pub use Rattle.std.proofs.lemmas.Bool.{and_from, and_parts, cases_eq, cases_lt, 
 pub use Rattle.std.proofs.lemmas.Bool.Decides.{nat_tests}
 pub use Rattle.std.proofs.lemmas.Cmp.{on_total, tied_itself, upto}
 pub use Rattle.std.proofs.lemmas.List.{append-nil, append_assoc, drop-map, drop_all, get_or-map, get_or-set_other, get_or-set_same, get_or_default, get_or_past, length-append, length-map, length-set, length-take, length-take-le, map-append, map-id, nil_from_length, set-get_or, take_all, take_more}
-pub use Rattle.std.proofs.lemmas.List.Edits.{get_or-insert_above, get_or-insert_at, get_or-insert_below, length-insert}
+pub use Rattle.std.proofs.lemmas.List.Edits.{get_or-insert_above, get_or-insert_at, get_or-insert_below, get_or-remove_above, get_or-remove_below, length-insert, length-remove}
 pub use Rattle.std.proofs.lemmas.List.Elements.{All-append, All-cons, All-from_recursion, All-get_or, All-map, All-nil, All-set, recursion_from_All}
 pub use Rattle.std.proofs.lemmas.List.Sums.{get_or-le-sum_by, sum_by-append, sum_by-cons, sum_by-set, sum_by-take-le, sum_by_push}
 pub use Rattle.std.proofs.lemmas.Map.Entries.{option_filter}
@@ -19,7 +19,7 @@ pub use Rattle.std.specs.Borrow.{RattleType}
 pub use Rattle.std.specs.Cmp.{IsTotalOrder}
 pub use Rattle.std.specs.Cmp.Lexicographic.{nat_list_cmp_total, options_total, pointwise, slice_cmp}
 pub use Rattle.std.specs.FinMap.{from_entries, get-from_entries}
-pub use Rattle.std.specs.List.{All, AllByRecursion, IsDistinct, insert, list_all, list_any, position_or_len, slice_get, starts_with}
+pub use Rattle.std.specs.List.{All, AllByRecursion, IsDistinct, insert, list_all, list_any, position_or_len, remove, slice_get, starts_with}
 pub use Rattle.std.specs.Map.{keys_of, lookup}
 pub use Rattle.std.specs.Map.Iter.{deref_pair}
 pub use Rattle.std.specs.Mem.{FitsInMemory}
@@ -55,7 +55,7 @@ pub use Rattle.cap_tree.specs.Measure.{Measure, StaysBounded}
 pub use Rattle.cap_tree.specs.Queue.{HasSettingsOf, IsUnused, MayGive, MayLeave, Queue, Users, count_in, moved_above, moved_at, of_queue, of_user, of_users, queue_count, stays_in_maximum, stays_in_user_limit, use_of, user_row, with_count, with_running, with_settings}
 pub use Rattle.cap_tree.specs.QueueLaws.{count_le_all, is_zero_counts, moved_counts, user_counts, zero_counts}
 pub use Rattle.cap_tree.specs.Rows.{AreRows, FindsQueue, HasLastName, HasRoomAtRoot, IsAt, PositionsArePaths, Row, active_in, changed_at, has_children, is_running, items_to, queues_of, root_use, rows_to, settings_of_row, user_row_at, with_row, with_row_of_path, with_state}
-pub use Rattle.cap_tree.specs.Service.{AreApart, AreSorted, ComesAfter, HasNoneAfter, HasPathsOnce, IsFirstAfter, IsOrderOf, IsPlaceAfter, IsThere, IsTop, child_cmp, child_item, child_levels, children_at, is_after, is_before, items_along, kid_items, level_at, level_of_queue, level_of_row, levels_at, queue_cmp, row_at, that_pass}
+pub use Rattle.cap_tree.specs.Service.{AreApart, AreSorted, ComesAfter, HasNoneAfter, HasPathsOnce, HasOrderOfOthers, IsFirstAfter, IsOrderOf, IsOrderOfOthers, IsPlaceAfter, IsTakenOut, IsThere, IsTop, child_cmp, child_item, child_levels, children_at, is_after, is_before, items_along, kid_items, level_at, level_of_queue, level_of_row, levels_at, queue_cmp, row_at, that_pass, was_at, was_nowhere}
 pub use Rattle.cap_tree.specs.Spot.{HoldsOfItem, IsAdded, IsAddedAt, IsPosition, Spot, along, below, change_along, first_failing, first_of, has_below, item_at, last_position, leads_below, leads_to, made_of, path_at, position_of_path, spots, under}
 pub use Rattle.cap_tree.specs.UserLaws.{same_users, sum-no_users, sum_of, user_row-with_count}
 pub use Rattle.cap_tree.specs.Walk.{AreMarked, HasNoMarkAfter, HasNoMarkBelow, IsAfterChild, IsFirstMark, IsMarkAfter, IsMarkBelow, IsUpTo, IsUpToChild, mark_at, place_cmp}

@@ -1,5 +1,5 @@
 -- The rows of a tree by position and by path.
-use Rattle.cap_tree.proofs.Prelude.{◌≡◌, ℕ, ◌≤◌, Bool, true, false, cond, ◌&&◌, List, [], ◌∷◌, ◌++◌, length, map, Some, refl, sym, ◌∙◌, ap, subst, arith, inl, inr, bytes_eq, ◌==◌, Option, None, filter, not, is_some, All, list_all, nat_tests, length-append, bytes_eq-Decides, QueueRow, is_under, name_of, IsIn, each_of, of_each, of_map, IsUnder, under_is, under_itself, map_same, filter_same, leads_to, item_at, path_at, change_along, along, first_failing, HoldsOfItem, IsPosition, Queue, Row, HasLastName, PositionsArePaths, settings_of_row, queues_of, changed_at, items_to, rows_to, is_running}
+use Rattle.cap_tree.proofs.Prelude.{◌≡◌, ℕ, ◌≤◌, Bool, true, false, cond, ◌&&◌, List, [], ◌∷◌, ◌++◌, length, map, Some, refl, sym, ◌∙◌, ap, subst, arith, inl, inr, bytes_eq, ◌==◌, Option, None, filter, not, is_some, All, list_all, nat_tests, length-append, bytes_eq-Decides, QueueRow, is_under, name_of, IsIn, each_of, of_each, of_map, IsUnder, under_is, under_itself, map_same, filter_same, leads_to, item_at, path_at, change_along, along, first_failing, HoldsOfItem, IsPosition, Queue, Row, HasLastName, PositionsArePaths, settings_of_row, queues_of, changed_at, items_to, rows_to, is_running, Spot}
 use Rattle.cap_tree.proofs.Looking.{level_from, failing-cons}
 
 -- two are the same where each leads to the other
@@ -135,7 +135,7 @@ running_rows position rows a h = none_fails (λ q. q.running) position rows a h 
 
 -- a change keeps positions and paths
 
-position_kept : (above at : Queue → Queue) (position : List ℕ) (r : Row) → (change_along above at position r).position ≡ r.position
+pub position_kept : {T : Type 0} (above at : T → T) (position : List ℕ) (r : Spot T) → (change_along above at position r).position ≡ r.position
 position_kept above at position r = by (bytes_eq r.position position) (leads_to r.position position)
   where
     by : (b c : Bool) → (cond b (record r { item = at r.item }) (cond c (record r { item = above r.item }) r)).position ≡ r.position
@@ -143,7 +143,7 @@ position_kept above at position r = by (bytes_eq r.position position) (leads_to 
     by false true = refl
     by false false = refl
 
-path_kept : (above at : Queue → Queue) (position : List ℕ) (r : Row) → (change_along above at position r).path ≡ r.path
+pub path_kept : {T : Type 0} (above at : T → T) (position : List ℕ) (r : Spot T) → (change_along above at position r).path ≡ r.path
 path_kept above at position r = by (bytes_eq r.position position) (leads_to r.position position)
   where
     by : (b c : Bool) → (cond b (record r { item = at r.item }) (cond c (record r { item = above r.item }) r)).path ≡ r.path

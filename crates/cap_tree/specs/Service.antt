@@ -1,5 +1,6 @@
 -- The order in which queues are served.
 use Rattle.std.specs.Prelude.{◌≡◌, ℕ, ◌<◌, ◌≤◌, Bool, true, false, List, [], ◌∷◌, ◌++◌, Option, Some, None, length, map, drop, find, bytes_eq, option_map, slice_index_or}
+use Rattle.std.specs.List.{remove}
 use Rattle.std.specs.Option.{option_cmp}
 use Rattle.std.proofs.lemmas.Map.Entries.{option_filter}
 use Rattle.std.specs.Ordering.{is_gt, is_lt}
@@ -112,11 +113,29 @@ module _ {T : Type 0} where
       pub early : (a : ℕ) → a < length indexes → slice_index_or indexes a 0 < count
       pub all : (j : ℕ) → j < count → IsThere j → (a : ℕ) × (a < length indexes) × (slice_index_or indexes a 0 ≡ j)
 
+    -- those of the first so many children but one, each of them
+    pub record IsOrderOfOthers (count index : ℕ) (indexes : List ℕ) : Type 0 where
+      pub sorted : AreSorted indexes
+      pub early : (a : ℕ) → a < length indexes → slice_index_or indexes a 0 < count
+      pub none : (a : ℕ) → a < length indexes → ¬ (slice_index_or indexes a 0 ≡ index)
+      pub all : (j : ℕ) → j < count → ¬ (j ≡ index) → IsThere j → (a : ℕ) × (a < length indexes) × (slice_index_or indexes a 0 ≡ j)
+
     -- the children from a place on come after an item, and those before do not
     pub record IsPlaceAfter (item : T) (indexes : List ℕ) (place : ℕ) : Type 0 where
       pub within : place ≤ length indexes
       pub before : (a : ℕ) → a < place → ¬ (option_cmp order (Some item) (child (slice_index_or indexes a 0)) ≡ Less)
       pub after : (a : ℕ) → place ≤ a → a < length indexes → option_cmp order (Some item) (child (slice_index_or indexes a 0)) ≡ Less
+
+  -- the indexes are in order of the first so many children, as they were before the one of this index was changed
+  pub record HasOrderOfOthers (order : T → T → Ordering) (child : ℕ → Option T) (count index : ℕ) (indexes : List ℕ) : Type 0 where
+    pub before : ℕ → Option T
+    pub was : IsOrderOf order before count indexes
+    pub same : (j : ℕ) → ¬ (j ≡ index) → before j ≡ child j
+
+-- an index was taken out of a list where it stood, or it stood nowhere
+pub data IsTakenOut (index : ℕ) (old new : List ℕ) : Type 0 where
+  was_at : (place : ℕ) → place < length old → slice_index_or old place 0 ≡ index → new ≡ remove old place → IsTakenOut index old new
+  was_nowhere : ((a : ℕ) → a < length old → ¬ (slice_index_or old a 0 ≡ index)) → new ≡ old → IsTakenOut index old new
 
 -- the level of each child of a position, by the child's index
 abbrev pub child_levels : List ℕ → List Row → ℕ → Option Level

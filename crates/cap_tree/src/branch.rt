@@ -10,7 +10,7 @@ ghost use Rattle.cap_tree.specs.Spot.{HoldsOfItem, IsAdded, IsPosition, along, c
 ghost use Rattle.cap_tree.specs.Finding.{IsFound, IsStart, is_parent};
 ghost use Rattle.cap_base.specs.Cascade.{holds_of};
 ghost use Rattle.cap_tree.specs.Branch.{AreSpots, IsBranch, root_count};
-ghost use Rattle.cap_tree.specs.Service.{AreApart, AreSorted, HasNoneAfter, HasPathsOnce, IsFirstAfter, IsOrderOf, IsPlaceAfter, IsTop, child_item, children_at, is_after, is_before, kid_items, that_pass};
+ghost use Rattle.cap_tree.specs.Service.{AreApart, AreSorted, HasNoneAfter, HasPathsOnce, HasOrderOfOthers, IsFirstAfter, IsOrderOf, IsPlaceAfter, IsTakenOut, IsTop, child_item, children_at, is_after, is_before, kid_items, that_pass};
 ghost use Rattle.cap_tree.specs.Walk.{AreMarked, HasNoMarkAfter, HasNoMarkBelow, IsFirstMark, IsMarkAfter, IsMarkBelow, mark_at, place_cmp};
 
 use crate::found::{Kind, Path};
@@ -163,8 +163,9 @@ impl<T> Test<T> for Every {
 pub struct Branch<T: TreeItem, A: Allocator> {
     item: T,
     children: Vec<Branch<T, A>, A>,
-    // Indexes of children: where it is sorted, of those in which something waits, in the order of service. Else of those that were added, in the
-    // order of their names, which no proof knows: a search looks there first, and then at all.
+    // Indexes of the children that were added, in the order of their names, which no proof knows: a search looks there first, and then at all.
+    names: Vec<u32, A>,
+    // Where it is sorted, indexes of the children in which something waits, in the order of service. There is room for all children.
     order: Vec<u32, A>,
     is_sorted: bool,
 }
@@ -203,6 +204,7 @@ impl<T: TreeItem + Drop, A: Allocator + Copy> Branch<T, A> {
         Branch {
             item,
             children: Vec::new(alloc),
+            names: Vec::new(alloc),
             order: Vec::new(alloc),
             is_sorted: false,
         }
@@ -244,12 +246,17 @@ impl<T: TreeItem + Drop, A: Allocator + Copy> Branch<T, A> {
         ensures tree { AreSpots T.name self.new }
     {
         self.is_sorted = false;
+        self.order.clear();
         match self.children.reserve(1) {
             Ok(()) => {}
             Err(_) => return Err(NoMemory),
         }
-        let place = place_of(&self.children, &self.order, item.name());
-        match self.order.insert(place, self.children.len() as u32) {
+        match self.order.reserve(self.children.len() + 1) {
+            Ok(()) => {}
+            Err(_) => return Err(NoMemory),
+        }
+        let place = place_of(&self.children, &self.names, item.name());
+        match self.names.insert(place, self.children.len() as u32) {
             Ok(()) => {}
             Err(_) => return Err(NoMemory),
         }
@@ -257,9 +264,12 @@ impl<T: TreeItem + Drop, A: Allocator + Copy> Branch<T, A> {
         Ok(())
     }
 
-    /// Changes the item that the steps lead to, and those above it. `NoMemory` changes nothing, and comes only where that
-    /// item grows.
+    /// Changes the item that the steps lead to, and those above it. Children that were sorted stay so: one is moved at each level. `NoMemory`
+    /// changes nothing, and comes only where that item grows.
     pub fn change<C: Change<T>>(&mut self, steps: &[u32], change: &C) -> Result<(), NoMemory>
+    where
+        T: Marked,
+        requires once { HasPathsOnce self.old }
         requires can { HoldsOfItem (C.can change.now) (item_at steps.now self.old) }
         requires within { MayChange (root_count T.stored self.old)
             (C.old change.now) (C.new change.now) }
@@ -277,12 +287,22 @@ impl<T: TreeItem + Drop, A: Allocator + Copy> Branch<T, A> {
         match steps {
             [] => change.change_at(&mut self.item),
             [i, rest @ ..] => {
+                let was_sorted = self.is_sorted;
                 self.is_sorted = false;
                 let child = &mut self.children[*i as usize];
                 match child.change(rest, change) {
-                    Err(NoMemory) => Err(NoMemory),
+                    Err(NoMemory) => {
+                        self.is_sorted = was_sorted;
+                        Err(NoMemory)
+                    }
                     Ok(()) => {
                         change.change_above(&mut self.item);
+                        self.is_sorted = move_child(
+                            &self.children,
+                            was_sorted,
+                            &mut self.order,
+                            *i,
+                        );
                         Ok(())
                     }
                 }
@@ -386,7 +406,7 @@ impl<T: TreeItem + Drop, A: Allocator + Copy> Branch<T, A> {
         if self.children.is_empty() {
             return None;
         }
-        let guess = guess(&self.children, &self.order, below);
+        let guess = guess(&self.children, &self.names, below);
         for turn in 0..self.children.len() + 1 {
             let i = looked_at(turn, guess);
             let child = &self.children[i];
@@ -429,6 +449,7 @@ impl<T: TreeItem + Drop, A: Allocator + Copy> Branch<T, A> {
         Ok(Branch {
             item,
             children,
+            names: Vec::new(alloc),
             order,
             is_sorted: false,
         })
@@ -610,14 +631,14 @@ fn looked_at(turn: usize, guess: usize) -> usize
 /// A child that may have the first name of a dotted path: the one that is found in the order of names, else the first.
 fn guess<T: TreeItem + Drop, A: Allocator + Copy>(
     children: &[Branch<T, A>],
-    order: &[u32],
+    names: &[u32],
     path: &[u8],
 ) -> usize
     requires { 1 ≤ length children.now }
     ensures { result < length children.now }
 {
-    let place = place_of(children, order, first_name(path));
-    match order.get(place) {
+    let place = place_of(children, names, first_name(path));
+    match names.get(place) {
         Some(index) if (*index as usize) < children.len() => *index as usize,
         _ => 0,
     }
@@ -626,16 +647,16 @@ fn guess<T: TreeItem + Drop, A: Allocator + Copy>(
 /// How many of the children of these indexes, which are in the order of names, have a lesser name, by a binary search.
 fn place_of<T: TreeItem + Drop, A: Allocator + Copy>(
     children: &[Branch<T, A>],
-    order: &[u32],
+    names: &[u32],
     name: &[u8],
 ) -> usize
-    ensures { result ≤ length order.now }
+    ensures { result ≤ length names.now }
 {
     let mut low = 0;
-    let mut high = order.len();
+    let mut high = names.len();
     while low < high {
         let middle = low + (high - low) / 2;
-        if is_named_before(children, order[middle], name) {
+        if is_named_before(children, names[middle], name) {
             low = middle + 1;
         } else {
             high = middle;
@@ -687,6 +708,49 @@ fn sort_children<T: Marked + Drop, A: Allocator + Copy>(
         }
     }
     true
+}
+
+/// Puts the index of a child that was changed where the child belongs among those in which something waits, where the others are in the order
+/// of service. Whether all are in order now: they were, and there was room.
+fn move_child<T: Marked + Drop, A: Allocator + Copy>(
+    children: &[Branch<T, A>],
+    was_sorted: bool,
+    order: &mut Vec<u32, A>,
+    index: u32,
+) -> bool
+    requires apart { AreApart T.order (kid_items children.now) }
+    requires index { index < length children.now }
+    requires others { was_sorted ≡ true → HasOrderOfOthers T.order
+        (that_pass T.waits (kid_items children.now)) (length children.now) index order.old.items }
+    ensures { result ≡ true → IsOrderOf T.order (that_pass T.waits (kid_items children.now))
+        (length children.now) order.new.items }
+{
+    if !was_sorted {
+        return false;
+    }
+    let old = take_out(order, index);
+    let child = children[index as usize].top();
+    if !child.waits() {
+        return true;
+    }
+    let place = place_after(children, order, child, old);
+    match order.insert(place, index) {
+        Ok(()) => true,
+        Err(_) => false,
+    }
+}
+
+/// Takes an index out of an order, if it is there: the place that it had, and else that after the last.
+fn take_out<A: Allocator>(order: &mut Vec<u32, A>, index: u32) -> usize
+    ensures { IsTakenOut index order.old.items order.new.items }
+{
+    for place in 0..order.len() {
+        if order[place] == index {
+            order.remove(place);
+            return place;
+        }
+    }
+    order.len()
 }
 
 /// How many of the children in the order of service are not served after that item, by a binary search. It looks at a guess first, where

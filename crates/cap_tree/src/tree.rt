@@ -72,6 +72,7 @@ impl<const K: usize, A: Allocator + Copy> QueueTree<K, A> {
             Ok(()) => {}
             Err(NoMemory) => return Err(NoMemory),
         }
+        root.sort_waiting();
         Ok(QueueTree {
             root,
             start: SmallVec::new(alloc),

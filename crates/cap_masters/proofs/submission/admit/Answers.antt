@@ -56,3 +56,6 @@ find-requires g c = tree_fits _ c.tree-tree.ensures.resources
 
 pub tree-tree-requires : goal.tree-tree-requires
 tree-tree-requires g c = (search, tree_fits _ c.apps-apps.ensures.resources)
+
+pub running-requires : goal.running-requires
+running-requires g c = (tree_fits _ c.tree-tree.ensures.resources, (omega arith, c.in-Leaf.ensures.found.0.present))

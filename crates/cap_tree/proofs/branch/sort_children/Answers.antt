@@ -1,5 +1,5 @@
-use Rattle.cap_tree.proofs.Prelude.{arith, ◌≡◌, ◌∙◌, length, subst, sym, Some, IsOrderOf, IsPlaceAfter, kid_items, that_pass, HoldsOfItem, false≢true}
-use Rattle.cap_tree.proofs.Orders.{kid_item, left_out, none_in_order, passing_differ, put_in}
+use Rattle.cap_tree.proofs.Prelude.{arith, ◌≡◌, ◌∙◌, ◌+◌, length, subst, sym, Some, IsOrderOf, IsPlaceAfter, kid_items, that_pass, HoldsOfItem, false≢true}
+use Rattle.cap_tree.proofs.Orders.{kid_item, left_as_it_is, none_in_order, others_of, passing_differ, put_between}
 use Rattle.cap_tree.proofs.Service.{failing, passing}
 use Rattle.cap_tree.proofs.branch.sort_children.Goals.{then-waits+in-Ok, else-waits}
 use Rattle.cap_tree.proofs.branch.sort_children.Goals as goal
@@ -18,8 +18,9 @@ loop-i-preserved g c =
           let place = w.place_after-last.result in
           let at : child k ≡ Some x = passing waits (kid_items kids) k x is (sym c.waits.ensures ∙ w.if-waits.true) in
           let put : IsPlaceAfter order child x c.loop-i.order.items place = subst (λ is. IsPlaceAfter order child x is place) w.deref.ensures.value w.place_after-last.ensures in
-          rw (w.order-is, w.in-Ok.ensures.items) (put_in order g.met.T.Served.total child k c.loop-i.order.items c.loop-i.invariant x at (passing_differ order waits (kid_items kids) c.requires.apart) place put)
-      | else-waits w ↦ rw w.order-is (left_out order g.met.T.Served.total child k c.loop-i.order.items c.loop-i.invariant (λ there. subst (HoldsOfItem (λ _. Unit {0})) (failing waits (kid_items kids) k x is (sym c.waits.ensures ∙ w.if-waits.false)) there))
+          rw (w.order-is, w.in-Ok.ensures.items)
+          (put_between order g.met.T.Served.total child (k + 1) k c.loop-i.order.items (others_of order g.met.T.Served.total child k c.loop-i.order.items c.loop-i.invariant) x at (passing_differ order waits (kid_items kids) c.requires.apart) place put (omega arith))
+      | else-waits w ↦ rw w.order-is (left_as_it_is order g.met.T.Served.total child (k + 1) k c.loop-i.order.items (others_of order g.met.T.Served.total child k c.loop-i.order.items c.loop-i.invariant) (λ there. subst (HoldsOfItem (λ _. Unit {0})) (failing waits (kid_items kids) k x is (sym c.waits.ensures ∙ w.if-waits.false)) there))
     ]
 
 pub returns : goal.returns

@@ -1,6 +1,7 @@
-use Rattle.cap_tree.proofs.branch.Branch.+change.Goals.{In-Err}
-use Rattle.cap_tree.proofs.Prelude.{AreSpots, IsBranch, ℕ, rules, ap, arith, get_or, drop, ◌-◌, take, length, subst, sym, ◌∙◌, ◌≡◌, set, ◌+◌, ◌<◌, List, Result, Ok, Err, on_ok_weaker, on_err_weaker, length-set, set-get_or, All-set, OnOk, OnErr, HoldsOfItem, Spot, first_of, item_at, spots, false≢true}
+use Rattle.cap_tree.proofs.Prelude.{AreSpots, IsBranch, ℕ, rules, ap, arith, get_or, drop, ◌-◌, take, length, subst, sym, ◌∙◌, ◌≡◌, set, ◌+◌, ◌<◌, List, Result, Ok, Err, on_ok_weaker, on_err_weaker, length-set, set-get_or, All-set, OnOk, OnErr, AreApart, HasOrderOfOthers, HoldsOfItem, IsOrderOf, kid_items, that_pass, Spot, first_of, item_at, spots}
 use Rattle.cap_tree.proofs.Spots.{steps-empty, as_in_child, changed_at_root, in_child, changed_in_child, child-le-sum, sum-set_child}
+use Rattle.cap_tree.proofs.Moves.{others_stay, still_differ}
+use Rattle.cap_tree.proofs.Service.{once_in_child}
 use Rattle.cap_tree.proofs.Rooms.{room_in_child}
 use Rattle.cap_tree.proofs.Trees.{tree_changed}
 use Rattle.cap_tree.proofs.branch.Branch.+change.Goals as goal
@@ -14,6 +15,11 @@ index_mut-child-requires g t c =
 pub change-requires : goal.change-requires
 change-requires g t c =
     let into = in_child (g.C.Change.can c.args.change.now) g.T.TreeItem.name c.self.inside.item c.self.inside.children.items c.args.self.now c.args.steps.now c.self.view_is c.in-len1-up.len_at_least c.requires.can in
+    let kids = c.self.inside.children.items in
+    let i = get_or c.args.steps.now 0 0 in
+    let kid = c.index_mut-child.result.now in
+    let is = c.index_mut-child.ensures.value in
+    let once = once_in_child g.T.TreeItem.name c.self.inside.item kids c.args.self.now c.self.view_is i kid into.within is c.requires.once in
     λ κs l. (
       search rules,
       (
@@ -23,12 +29,15 @@ change-requires g t c =
           (
             search rules,
             (
-              rw c.index_mut-child.ensures.value (into.holds c.index_mut-child.result.now),
-              λ m.
-                  let w = rw (← c.self.view_is) at (c.requires.within m) in
-                  let s = c.self.invariant.0.sums m in
-                  let b = child-le-sum (first_of (λ x. g.T.TreeItem.stored x m)) c.self.inside.children.items (get_or c.args.steps.now 0 0) c.index_mut-child.result.now into.within c.index_mut-child.ensures.value in
-                  room_in_child _ _ _ _ _ (omega arith) w,
+              once,
+              (
+                rw is (into.holds kid),
+                λ m.
+                    let w = rw (← c.self.view_is) at (c.requires.within m) in
+                    let s = c.self.invariant.0.sums m in
+                    let b = child-le-sum (first_of (λ x. g.T.TreeItem.stored x m)) kids i kid into.within is in
+                    room_in_child _ _ _ _ _ (omega arith) w,
+              ),
             ),
           ),
         ),
@@ -90,7 +99,7 @@ invariant_of-self-in-Ok g t c =
         trees = All-set (AreSpots g.T.TreeItem.name) c.self.inside.children.items i c.change.new.self changed c.self.invariant.0.trees;
         few = let l = length-set c.self.inside.children.items i c.change.new.self in omega (arith, l, c.self.invariant.0.few);
       },
-      λ sorted. absurd (false≢true sorted),
+      λ sorted. subst (λ ks. IsOrderOf g.T.TreeItem.order (that_pass g.T.TreeItem.waits (kid_items ks)) (length ks) c.move_child-self-inside.new.order.items) c.deref.ensures.value (c.move_child-self-inside.ensures sorted),
     )
 
 pub returns-in-empty-clause-changed : goal.returns-in-empty-clause-changed
@@ -109,17 +118,20 @@ pub returns-in-Ok-clause-moved : goal.returns-in-Ok-clause-moved
 returns-in-Ok-clause-moved g t c m = rw (← c.self.view_is, c.change_above.ensures) (g.met.C.Change.stored_above c.args.change.now c.self.inside.item m)
 
 -- a child that is not changed leaves the children as they were
-same_kids : (g : _) (t : ℕ) (c : In-Err g t) → set c.self.inside.children.items (get_or c.args.steps.now 0 0) c.change.new.self ≡ c.self.inside.children.items
-same_kids g t c =
-    let kids = c.self.inside.children.items in
-    let i = get_or c.args.steps.now 0 0 in
-    ap (set kids i) (c.in-Err.ensures.unchanged ∙ c.index_mut-child.ensures.value) ∙ set-get_or kids i c.index_mut-child.result.now
+same_kids : {T : Type 0} (kids : List (List (Spot T))) (i : ℕ) (kid new : List (Spot T)) → kid ≡ get_or kids i kid → new ≡ kid → set kids i new ≡ kids
+same_kids kids i kid new is e = ap (set kids i) (e ∙ is) ∙ set-get_or kids i kid
 
 pub invariant_of-self-in-Err : goal.invariant_of-self-in-Err
-invariant_of-self-in-Err g t c = (subst (IsBranch g.T.TreeItem.name g.T.TreeItem.stored g.T.TreeItem.own c.self.inside.item) (sym (same_kids g t c)) c.self.invariant.0, λ sorted. absurd (false≢true sorted))
+invariant_of-self-in-Err g t c =
+    let kids = c.self.inside.children.items in
+    let same = same_kids kids (get_or c.args.steps.now 0 0) c.index_mut-child.result.now c.change.new.self c.index_mut-child.ensures.value c.in-Err.ensures.unchanged in (
+      subst (IsBranch g.T.TreeItem.name g.T.TreeItem.stored g.T.TreeItem.own c.self.inside.item) (sym same) c.self.invariant.0,
+      λ sorted. subst (λ ks. IsOrderOf g.T.TreeItem.order (that_pass g.T.TreeItem.waits (kid_items ks)) (length ks) c.self.inside.order.items) (sym same) (c.self.invariant.1 sorted),
+    )
 
 pub returns-in-Err-clause-unchanged : goal.returns-in-Err-clause-unchanged
-returns-in-Err-clause-unchanged g t c = ap (spots g.T.TreeItem.name c.self.inside.item) (same_kids g t c) ∙ c.self.view_is
+returns-in-Err-clause-unchanged g t c =
+    ap (spots g.T.TreeItem.name c.self.inside.item) (same_kids c.self.inside.children.items (get_or c.args.steps.now 0 0) c.index_mut-child.result.now c.change.new.self c.index_mut-child.ensures.value c.in-Err.ensures.unchanged) ∙ c.self.view_is
 
 pub change_at-requires-clause-within : goal.change_at-requires-clause-within
 change_at-requires-clause-within g t c = rw (← c.self.view_is) at c.requires.within
@@ -172,3 +184,37 @@ returns-in-empty-clause-grows g t c = on_err_weaker c.change_at.result (λ p. rw
 
 pub returns-in-empty-clause-unchanged : goal.returns-in-empty-clause-unchanged
 returns-in-empty-clause-unchanged g t c = on_err_weaker c.change_at.result (λ e. ap (λ x. spots g.T.TreeItem.name x c.self.inside.children.items) e ∙ c.self.view_is) c.change_at.ensures.err
+
+pub move_child-self-inside-requires-clause-apart : goal.move_child-self-inside-requires-clause-apart
+move_child-self-inside-requires-clause-apart g t c =
+    let into = in_child (g.C.Change.can c.args.change.now) g.T.TreeItem.name c.self.inside.item c.self.inside.children.items c.args.self.now c.args.steps.now c.self.view_is c.in-len1-up.len_at_least c.requires.can in
+    let kids = c.self.inside.children.items in
+    let i = get_or c.args.steps.now 0 0 in
+    let kid = c.index_mut-child.result.now in
+    let same = c.index_mut-child.ensures.value in
+    let above = g.C.Change.above c.args.change.now in
+    let at = g.C.Change.at c.args.change.now in
+    let tree : AreSpots g.T.TreeItem.name kid = subst (AreSpots g.T.TreeItem.name) (sym same) (c.self.invariant.0.trees i kid into.within) in
+    let changed : AreSpots g.T.TreeItem.name c.change.new.self = subst (AreSpots g.T.TreeItem.name) (sym c.in-Ok.ensures.changed)
+    (tree_changed above at g.T.TreeItem.name (g.met.C.Change.name_above c.args.change.now) (g.met.C.Change.name_at c.args.change.now) tree (take (length c.args.steps.now - 1) (drop 1 c.args.steps.now))) in
+    let value = changed_in_child above at g.T.TreeItem.name c.self.inside.item c.change_above.new.item kids c.args.self.now c.args.steps.now kid c.change.new.self c.self.view_is c.in-len1-up.len_at_least
+    (g.met.C.Change.name_above c.args.change.now c.self.inside.item) c.change_above.ensures into.within same c.in-Ok.ensures.changed in
+    subst (λ ks. AreApart g.T.TreeItem.order (kid_items ks)) (sym c.deref.ensures.value)
+    (still_differ g.T.TreeItem.name kids i c.change.new.self g.T.TreeItem.order g.met.T.Served.total g.met.T.Served.names c.change_above.new.item above at c.args.steps.now c.args.self.now value c.requires.once c.self.invariant.0.trees changed)
+
+pub move_child-self-inside-requires-clause-index : goal.move_child-self-inside-requires-clause-index
+move_child-self-inside-requires-clause-index g t c =
+    let into = in_child (g.C.Change.can c.args.change.now) g.T.TreeItem.name c.self.inside.item c.self.inside.children.items c.args.self.now c.args.steps.now c.self.view_is c.in-len1-up.len_at_least c.requires.can in
+    let w = into.within in
+    let e = ap length c.deref.ensures.value in
+    let l = length-set c.self.inside.children.items (get_or c.args.steps.now 0 0) c.change.new.self in
+    omega (arith, w, e, l)
+
+pub move_child-self-inside-requires-clause-others : goal.move_child-self-inside-requires-clause-others
+move_child-self-inside-requires-clause-others g t c sorted =
+    let kids = c.self.inside.children.items in
+    let i = get_or c.args.steps.now 0 0 in
+    let order = g.T.TreeItem.order in
+    let waits = g.T.TreeItem.waits in
+    subst (λ ks. HasOrderOfOthers order (that_pass waits (kid_items ks)) (length ks) i c.self.inside.order.items) (sym c.deref.ensures.value)
+    (others_stay g.T.TreeItem.name kids i c.change.new.self order waits c.self.inside.order.items (c.self.invariant.1 sorted))

@@ -30,6 +30,9 @@ returns-in-Err-clause-tree g c = tree_of g.T.TreeItem.name c.self.inside.item c.
 pub returns-in-Err-insert-clause-tree : goal.returns-in-Err-insert-clause-tree
 returns-in-Err-insert-clause-tree g c = tree_of g.T.TreeItem.name c.self.inside.item c.reserve.new.self.items (subst (All (AreSpots g.T.TreeItem.name)) (sym c.reserve.ensures.items) c.self.invariant.0.trees)
 
+pub returns-in-Err-reserve-clause-tree : goal.returns-in-Err-reserve-clause-tree
+returns-in-Err-reserve-clause-tree g c = tree_of g.T.TreeItem.name c.self.inside.item c.reserve.new.self.items (subst (All (AreSpots g.T.TreeItem.name)) (sym c.reserve.ensures.items) c.self.invariant.0.trees)
+
 pub invariant_of-self-2 : goal.invariant_of-self-2
 invariant_of-self-2 g c =
     let kids = c.self.inside.children.items in

@@ -5,6 +5,7 @@ use Rattle.cap_tree.proofs.Waits.{waiting_kept}
 use Rattle.cap_tree.proofs.Listings.{rows_kept}
 use Rattle.cap_tree.proofs.RowPaths.{changed_rows}
 use Rattle.cap_tree.proofs.Sizes.{path_fits, queue_fits}
+use Rattle.cap_tree.proofs.ServiceRows.{rows_once}
 use Rattle.cap_tree.proofs.tree.QueueTree.change.Goals as goal
 
 pub change-requires-clause-can : goal.change-requires-clause-can
@@ -57,3 +58,12 @@ change-requires-room-C-Change g c κs within = search rules
 
 pub change-requires-room-C-Change-2 : goal.change-requires-room-C-Change-2
 change-requires-room-C-Change-2 g c κs within = search queue_fits
+
+pub change-requires-clause-once : goal.change-requires-clause-once
+change-requires-clause-once g c = rows_once c.self.inside.root c.self.invariant.rows_are.paths
+
+pub change-requires-room-T-Marked : goal.change-requires-room-T-Marked
+change-requires-room-T-Marked g c κs within = search queue_fits
+
+pub change-requires-room-T-Served : goal.change-requires-room-T-Served
+change-requires-room-T-Served g c κs within = search queue_fits

@@ -1,6 +1,8 @@
 use Rattle.cap_tree.proofs.Sizes.{row_fits}
-use Rattle.cap_tree.proofs.Prelude.{arith, ◌∙◌, ◌≡◌, ◌∷◌, ◌++◌, ◌-◌, ap, refl, sym, subst, take, drop, length, [], AreSpots, of_tree, Queue, IsListing, IsGrowing, queues_of}
+use Rattle.cap_tree.proofs.Prelude.{arith, ◌∙◌, ◌≡◌, ◌∷◌, ◌++◌, ◌-◌, ap, refl, sym, subst, take, drop, length, [], All, AreSpots, IsUnused, Row, of_tree, Queue, IsListing, IsGrowing, queues_of}
 use Rattle.cap_tree.proofs.Growing.{start, finished, none_listed, split_list, unused_stored, unused_own}
+use Rattle.cap_tree.specs.Rows.{IsQueueTree}
+use Rattle.cap_tree.proofs.ServiceRows.{rows_once}
 use Rattle.cap_tree.proofs.Waits.{none_waiting}
 use Rattle.cap_tree.proofs.tree.QueueTree.from_config.Goals as goal
 
@@ -46,7 +48,8 @@ invariant_of-result g c =
     let l = subst IsListing (sym c.queues.ensures.rows) c.queues.ensures.listing in
     let s = start g.row.K qs others c.first-item.result c.in-Ok.queue e l c.in-Ok.ensures.0 c.in-Ok.ensures.1 in
     let q : queues_of c.add_all.new.root ≡ qs = c.in-Ok-add_all.ensures.queues ∙ ap (λ r. queues_of r ++ others) c.leaf-root.ensures ∙ ap (λ x. x ++ others) s.queues ∙ sym e in
-    record { rows_are = finished g.row.K c.add_all.new.root qs c.in-Ok-add_all.ensures.grown q l; start_is = record { empty = c.new-2.ensures.items; room = c.new-2.ensures.capacity }; waiting_are = none_waiting g.row.K c.add_all.new.root c.add_all.ensures.tree c.in-Ok-add_all.ensures.grown.unused }
+    subst (λ rows. IsQueueTree rows c.new-2.result) (sym c.sort_waiting.ensures)
+    (record { rows_are = finished g.row.K c.add_all.new.root qs c.in-Ok-add_all.ensures.grown q l; start_is = record { empty = c.new-2.ensures.items; room = c.new-2.ensures.capacity }; waiting_are = none_waiting g.row.K c.add_all.new.root c.add_all.ensures.tree c.in-Ok-add_all.ensures.grown.unused })
 
 pub returns-clause-queues : goal.returns-clause-queues
 returns-clause-queues g c =
@@ -55,7 +58,13 @@ returns-clause-queues g c =
     let e : qs ≡ c.first-item.result ∷ others = split_list qs c.first-item.result c.in-len1-up.len_at_least c.first-item.is in
     let l = subst IsListing (sym c.queues.ensures.rows) c.queues.ensures.listing in
     let s = start g.row.K qs others c.first-item.result c.in-Ok.queue e l c.in-Ok.ensures.0 c.in-Ok.ensures.1 in
-    c.in-Ok-add_all.ensures.queues ∙ ap (λ r. queues_of r ++ others) c.leaf-root.ensures ∙ ap (λ x. x ++ others) s.queues ∙ sym e ∙ c.queues.ensures.rows
+    ap queues_of c.sort_waiting.ensures ∙ c.in-Ok-add_all.ensures.queues ∙ ap (λ r. queues_of r ++ others) c.leaf-root.ensures ∙ ap (λ x. x ++ others) s.queues ∙ sym e ∙ c.queues.ensures.rows
+
+pub returns-clause-unused : goal.returns-clause-unused
+returns-clause-unused g c = subst (All (λ (r : Row). IsUnused g.row.K r.item)) (sym c.sort_waiting.ensures) c.in-Ok-add_all.ensures.grown.unused
+
+pub sort_waiting-requires : goal.sort_waiting-requires
+sort_waiting-requires g c = record { once = rows_once c.add_all.new.root c.in-Ok-add_all.ensures.grown.paths }
 
 pub leaf-root-requires-room-T-TreeItem : goal.leaf-root-requires-room-T-TreeItem
 leaf-root-requires-room-T-TreeItem g c κs within = search

@@ -6,6 +6,7 @@ use Rattle.cap_tree.proofs.Callers.{never_grows}
 use Rattle.cap_tree.proofs.Listings.{state_rows, state_kept}
 use Rattle.cap_tree.proofs.RowPaths.{changed_rows}
 use Rattle.cap_tree.proofs.Sizes.{path_fits, queue_fits}
+use Rattle.cap_tree.proofs.ServiceRows.{rows_once}
 use Rattle.cap_tree.proofs.tree.QueueTree.set_state.Goals as goal
 
 pub invariant_of-self : goal.invariant_of-self
@@ -46,3 +47,12 @@ change-requires-room-T-Destruct g c κs within = search queue_fits
 
 pub change-requires-room-C-Change : goal.change-requires-room-C-Change
 change-requires-room-C-Change g c κs within = search queue_fits
+
+pub change-requires-clause-once : goal.change-requires-clause-once
+change-requires-clause-once g c = rows_once c.self.inside.root c.self.invariant.rows_are.paths
+
+pub change-requires-room-T-Marked : goal.change-requires-room-T-Marked
+change-requires-room-T-Marked g c κs within = search queue_fits
+
+pub change-requires-room-T-Served : goal.change-requires-room-T-Served
+change-requires-room-T-Served g c κs within = search queue_fits

@@ -6,6 +6,7 @@ use Rattle.cap_tree.proofs.Sizes.{path_fits, queue_fits}
 use Rattle.cap_tree.proofs.Waits.{room_there, room_waiting, waiting_one_more, waits_there}
 use Rattle.cap_tree.specs.Counted.{AreWaiting}
 use Rattle.cap_tree.specs.Queue.{waiting_above, waiting_more}
+use Rattle.cap_tree.proofs.ServiceRows.{rows_once}
 use Rattle.cap_tree.proofs.tree.QueueTree.wait.Goals as goal
 
 pub as_slice-requires : goal.as_slice-requires
@@ -48,3 +49,12 @@ change-requires-room-T-Destruct g c κs within = search queue_fits
 
 pub change-requires-room-C-Change : goal.change-requires-room-C-Change
 change-requires-room-C-Change g c κs within = search queue_fits
+
+pub change-requires-clause-once : goal.change-requires-clause-once
+change-requires-clause-once g c = rows_once c.self.inside.root c.self.invariant.rows_are.paths
+
+pub change-requires-room-T-Marked : goal.change-requires-room-T-Marked
+change-requires-room-T-Marked g c κs within = search queue_fits
+
+pub change-requires-room-T-Served : goal.change-requires-room-T-Served
+change-requires-room-T-Served g c κs within = search queue_fits
