@@ -1,3 +1,4 @@
+pub mod AtLeast
 pub mod Entries
 pub mod Keeping
 pub mod KeptAsks

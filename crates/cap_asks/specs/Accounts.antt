@@ -1,6 +1,8 @@
 -- What an application holds in memory: its row in the flat cluster, and what it keeps beside it.
 use Rattle.std.specs.Prelude.{◌≡◌, ℕ, ◌+◌, ◌*◌, ◌%◌, ◌≤◌, Bool, true, is_some, List, [], ◌∷◌, Option, None, option_map, if◌then◌else◌}
 use Rattle.std.specs.Ordering.{is_lt}
+use Rattle.cap_vector.specs.Vector.{Fits}
+use Rattle.cap_base.specs.Members.{IsIn}
 use Rattle.cap_model.specs.declared.ask.Key.{Key}
 use Rattle.cap_model.specs.Asks.{ask_key_cmp, Ask}
 use Rattle.cap_model.specs.Flat.{App, ask_at}
@@ -51,6 +53,10 @@ AreAfter key (ask ∷ asks) = (is_before key ask.key ≡ true) × AreAfter key a
 abbrev pub AreKept : List Ask → Type 0
 AreKept [] = Unit {0}
 AreKept (ask ∷ asks) = (1 ≤ ask.count) × AreAfter ask.key asks × AreKept asks
+
+-- each ask wants at least so much of each resource
+abbrev pub WantAtLeast : List ℕ → List Ask → Type 0
+WantAtLeast least asks = (ask : Ask) → IsIn ask asks → Fits least ask.resource
 
 -- where in the order of keys a key stands, or would stand
 abbrev pub index_of : Key → List Ask → ℕ

@@ -7,18 +7,21 @@ ghost use Rattle.cap_model.specs.Allocate.{has_too_many_keys, after_telling};
 ghost use Rattle.cap_model.specs.Events.{take_one};
 ghost use Rattle.cap_model.specs.ResponseIds.{is_repeated, is_bad_id};
 ghost use Rattle.cap_model.specs.Submit.{new_app};
-ghost use Rattle.cap_asks.specs.Accounts.{AreKept, TakesRoom, HasRoom, repeated_numbers, with_numbers};
+ghost use Rattle.cap_asks.specs.Accounts.{AreKept, TakesRoom, HasRoom, WantAtLeast, repeated_numbers, with_numbers};
 ghost use Rattle.cap_model.specs.Reporting.{reported_of, news_most};
 ghost use Rattle.cap_asks.specs.Changes.{MayChange, Takes, changed_by, used_by};
 ghost use Rattle.cap_asks.specs.Apps.{is_waiting, new_account};
 
 use crate::asks::Asks;
 use crate::change::Change;
+use crate::least::{lowered, resized};
 use crate::news::News;
+use cap_base::RESOURCES;
 use cap_model::{
     AllocateView, Ask, End, Grant, Key, NEWS_MAX, NoMemory, PathText, ReplyRoom, Reported,
     ShortText, is_bad, next_response, repeats,
 };
+use cap_vector::Resource;
 use smallvec::SmallVec;
 use std::alloc::Global;
 use std::marker::Model;
@@ -39,6 +42,7 @@ pub struct App<const K: usize> {
     ignored: Option<u16>,
     live: u32,
     asks: Asks<K>,
+    least: Resource<RESOURCES>,
     grants: News<Grant<K>>,
     ends: News<End>,
 }
@@ -46,7 +50,7 @@ pub struct App<const K: usize> {
 impl<const K: usize> Model for App<K> {
     ghost use Rattle.std.specs.Prelude.{◌<◌, ◌≤◌, option_map};
     ghost use Rattle.cap_base.specs.Limits.{response_end};
-    ghost use Rattle.cap_asks.specs.Accounts.{HeldApp};
+    ghost use Rattle.cap_asks.specs.Accounts.{HeldApp, WantAtLeast};
 
     ghost Value = { HeldApp };
 
@@ -76,7 +80,8 @@ impl<const K: usize> Model for App<K> {
       };
     } };
 
-    ghost invariant = { λ a. (a.response < response_end) × (a.live ≤ a.ends.room) };
+    ghost invariant = { λ a. (a.response < response_end) × (a.live ≤ a.ends.room)
+        × WantAtLeast a.least a.asks.asks };
 }
 
 impl<const K: usize> App<K> {
@@ -101,6 +106,7 @@ impl<const K: usize> App<K> {
             ignored: None,
             live: 0,
             asks: Asks::new(alloc),
+            least: Resource::zero(),
             grants: News::new(alloc),
             ends: News::new(alloc),
         }
@@ -169,6 +175,14 @@ impl<const K: usize> App<K> {
         ensures kept { AreKept self.now.app.asks }
     {
         self.asks.as_slice()
+    }
+
+    /// At most what each of its asks wants, in MiB, vcores and GPUs: no ask wants less of any of these. It looks at no ask. It may be
+    /// less than the least of each, since it stays as it is where asks go. Of kinds of resource beyond these three it is 0.
+    pub fn least(&self) -> Resource<K>
+        ensures { WantAtLeast result self.now.app.asks }
+    {
+        resized(&self.least)
     }
 
     /// Its ask of this key, none where there is none.
@@ -286,6 +300,21 @@ impl<const K: usize> App<K> {
         self.ends.reserve(ends)
     }
 
+    /// At most what each ask wants after this one was put: so much less as it wants less. A first ask sets it anew, and one that is taken
+    /// away leaves it.
+    fn least_with(&self, ask: &Ask<K>) -> Resource<RESOURCES>
+        ensures { WantAtLeast result (put_ask ask.now self.now.app.asks) }
+    {
+        if ask.count() == 0 {
+            return self.least;
+        }
+        let resource = ask.resource();
+        if self.asks.is_empty() {
+            return resized(&resource);
+        }
+        lowered(&self.least, &resource)
+    }
+
     /// Changes it as a call does.
     pub(crate) fn change(&mut self, change: Change<'_, K>)
         requires { MayChange change self.old.account }
@@ -295,7 +324,10 @@ impl<const K: usize> App<K> {
     {
         match change {
             Change::Register => self.registered = true,
-            Change::PutAsk(ask) => self.asks.put(ask),
+            Change::PutAsk(ask) => {
+                self.least = self.least_with(ask);
+                self.asks.put(ask);
+            }
             Change::TakeOne(key) => self.asks.take_one(key),
             Change::AddGrant(grant) => {
                 self.grants.add(*grant);

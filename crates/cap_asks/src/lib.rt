@@ -5,6 +5,7 @@ mod app;
 mod apps;
 mod asks;
 mod change;
+mod least;
 mod news;
 mod waiting;
 

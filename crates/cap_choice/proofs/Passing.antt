@@ -1,6 +1,6 @@
 -- The nodes of the ring without a reservation that are passed over, since no ask is admitted there.
-use Rattle.cap_choice.proofs.Prelude.{◌≡◌, ℕ, ◌+◌, ◌<◌, ◌≤◌, List, length, Some, None, sym, ◌∙◌, ap, inl, inr, arith, Option, IsSome, not, slice_get, cases_lt, Reservation, Sight, NodeSight, choice_on, each_of, seen_node, IsOffer, IsWhole, Offer, IsClosed, IsPassed, IsSeenNode, node_after, ring_index, taken_as, IsReserved, IsTurn, IsUnfit}
-use Rattle.cap_choice.proofs.Admitting.{not_taken}
+use Rattle.cap_choice.proofs.Prelude.{◌≡◌, ℕ, ◌+◌, ◌<◌, ◌≤◌, List, length, Some, None, sym, ◌∙◌, ap, inl, inr, arith, Option, IsSome, not, slice_get, cases_lt, Reservation, Sight, NodeSight, choice_on, each_of, seen_node, IsOffer, IsWhole, Offer, IsClosed, IsPassed, IsSeenNode, node_after, ring_index, taken_as, IsReserved, IsShutFor, IsTurn, IsUnfit}
+use Rattle.cap_choice.proofs.Admitting.{not_taken, over_limits_there}
 use Rattle.cap_choice.proofs.Choosing.{none_chosen, slice_get_in}
 
 pub at_most : (l m n : ℕ) → l < m → m ≤ n → l ≤ n
@@ -47,6 +47,11 @@ module _ {K : ℕ} (sight : Sight K) (whole : IsWhole sight) where
     -- an ask that no node can take
     pub closed_passed : (n : ℕ) → IsClosed sight o → IsPassed sight first n o
     closed_passed n closed turn node h at unreserved = closed node (ring_node_is first turn node at) unreserved
+
+    -- or that is shut
+    pub shut_passed : (n : ℕ) → IsShutFor sight o.app o.ask → IsPassed sight first n o
+    shut_passed n (inl unfit) turn node h at unreserved = not_taken sight node o (ring_node_is first turn node at) whole is unreserved (unfit node (slice_get_in sight.nodes (ring_index first turn (length sight.nodes)) node at))
+    shut_passed n (inr over) turn node h at unreserved = over_limits_there sight node o (ring_node_is first turn node at) whole is unreserved over
 
   -- nodes that hold reservations are passed over
   held_none : (o : Option Reservation) → IsSome o → o ≡ None → ⊥

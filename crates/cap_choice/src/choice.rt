@@ -78,7 +78,8 @@ fn nearest_taker<const K: usize, F: Farm<K>>(farm: &F, first: usize, count: usiz
 
 /// The nearest taker where `nearest` is the one of all asks of applications that are served before that one: a node that takes one of
 /// its asks, if one comes before it, and else `nearest`. The first `least` nodes of the ring hold reservations, so that none of
-/// them takes an ask. An ask that no node fits is passed over at once, then one that no limits allow, and then nodes are looked at.
+/// them takes an ask. An application that is shut to all its asks is passed over at once. An ask that no node fits is passed over at
+/// once too, then one that no limits allow, and then nodes are looked at.
 fn nearer_taker<const K: usize, F: Farm<K>>(
     farm: &F,
     first: usize,
@@ -99,7 +100,12 @@ fn nearer_taker<const K: usize, F: Farm<K>>(
     ensures { IsNearestUpTo (F.sight farm.now) first (F.shown farm.now app)
         (length (F.shown farm.now app).asks) result.turn result.proposal }
 {
-    for index in 0..farm.ask_count(app) {
+    let asks = farm.ask_count(app);
+    // Of a single ask the same is found out below, by the look at that ask.
+    if asks > 1 && farm.is_shut(app) {
+        return nearest;
+    }
+    for index in 0..asks {
         if nearest.turn <= least {
             return nearest;
         }

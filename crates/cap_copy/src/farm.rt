@@ -118,6 +118,11 @@ impl<const K: usize, B: Allocator + Copy> Farm<K> for Snapshot<K, B> {
             .stays_within(app.position().as_slice(), app.used(), old, new)
     }
 
+    fn is_shut(&self, _of: u64) -> bool {
+        // A snapshot serves one turn, which looks at each ask once: to take the least of them would be one more look at each.
+        false
+    }
+
     fn live(&self) -> usize {
         self.live
     }

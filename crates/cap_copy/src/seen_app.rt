@@ -3,6 +3,7 @@ ghost use Rattle.std.specs.Prelude.{◌≡◌, ◌≤◌, ◌++◌, [], IfOk, On
 ghost use Rattle.std.specs.List.{All};
 ghost use Rattle.cap_base.specs.Limits.{applications_max, resources_max};
 ghost use Rattle.cap_asks.specs.Accounts.{AreKept};
+ghost use Rattle.cap_copy.specs.Sizes.{SourceFitsInMemory};
 ghost use Rattle.cap_copy.specs.Entries.{asks_of, asks_of_all};
 ghost use Rattle.cap_copy.specs.SeenApp.{AreSeen, range_in, user_used};
 ghost use Rattle.cap_tree.specs.Spot.{IsPosition};
@@ -90,6 +91,7 @@ pub(crate) fn seen_apps<const K: usize, B: Allocator + Copy>(
     tree: &QueueTree<K, Global>,
     waiting: &[Waiting<'_, K>],
 ) -> Result<(Vec<SeenApp<K>, B>, Vec<SeenAsk<K>, B>), NoMemory>
+    requires source { SourceFitsInMemory K.row }
     requires resources { K ≤ resources_max }
     requires few { length waiting.now ≤ applications_max }
     requires placed { All (λ r. IsPosition tree.now r.account.position) waiting.now }
@@ -122,7 +124,9 @@ fn seen_app<const K: usize, B: Allocator + Copy>(
     app: &App<K>,
     asks: &mut Vec<SeenAsk<K>, B>,
 ) -> Result<SeenApp<K>, NoMemory>
-    requires { IsPosition tree.now app.now.account.position }
+    requires source { SourceFitsInMemory K.row }
+    requires resources { K ≤ resources_max }
+    requires position { IsPosition tree.now app.now.account.position }
     ensures held { IfOk result (λ seen. seen.held ≡ app.now) }
     ensures used { IfOk result (λ seen. seen.used ≡ user_used K tree.now app.now) }
     ensures start { IfOk result (λ seen. seen.start ≡ length asks.old.items) }

@@ -3,6 +3,7 @@ ghost use Rattle.std.specs.Prelude.{◌≡◌, ◌<◌, ◌≤◌, ◌++◌, ◌
 ghost use Rattle.std.specs.List.{slice_get};
 ghost use Rattle.cap_tree.specs.Rows.{AreRows};
 ghost use Rattle.cap_tree.specs.Spot.{IsPosition};
+ghost use Rattle.cap_copy.specs.Sizes.{SourceFitsInMemory};
 ghost use Rattle.cap_copy.specs.Limits.{stays_in_limits};
 ghost use Rattle.cap_copy.specs.ServiceOrder.{IsNextServed};
 
@@ -54,6 +55,7 @@ impl<const K: usize, B: Allocator + Copy> SeenTree<K, B> {
         tree: &QueueTree<K, Global>,
         room: usize,
     ) -> Result<SeenTree<K, B>, NoMemory>
+        requires { SourceFitsInMemory K.row }
         ensures rows { IfOk result (λ seen. seen.rows ≡ tree.now) }
         ensures none { IfOk result (λ seen. seen.waiting ≡ []) }
         ensures room { IfOk result (λ seen. room ≤ seen.room) }

@@ -1,10 +1,11 @@
 -- What a node has room for, and what limits allow.
-use Rattle.std.specs.Prelude.{◌≡◌, ◌⊎◌, ℕ, Bool, ◌&&◌, List, Option, Some, None, is_none, nat_le, if◌then◌else◌}
+use Rattle.std.specs.Prelude.{◌≡◌, ◌⊎◌, ℕ, Bool, false, ◌&&◌, List, Option, Some, None, is_none, nat_le, if◌then◌else◌}
 use Rattle.std.specs.List.{list_all}
-use Rattle.cap_vector.specs.Vector.{amounts_exchanged}
+use Rattle.cap_vector.specs.Vector.{amounts_exchanged, zeros}
 use Rattle.cap_base.specs.Amounts.{fits}
 use Rattle.cap_base.specs.Cascade.{holds_of}
 use Rattle.cap_base.specs.LimitTests.{fits_maximum, fits_user_limit}
+use Rattle.cap_base.specs.Members.{IsIn}
 use Rattle.cap_model.specs.declared.proposal.ProposalKind.{ProposalKind}
 use Rattle.cap_model.specs.declared.proposal.ProposalKind.TheVariants.{Grant, Reserve}
 use Rattle.cap_model.specs.Asks.{Ask}
@@ -43,3 +44,11 @@ module _ {K : ℕ} where
   in_limits sight app old new =
       list_all (λ q. fits_maximum q.row.maximum (amounts_exchanged old new q.used)) (queues_to sight app.leaf)
       && holds_of (λ q. fits_user_limit q.row.factor q.row.guaranteed (amounts_exchanged old new (q.used_by app.user))) (seen_queue sight app.leaf)
+
+  -- an ask that no node takes, or that the limits of its application allow on none that holds no reservation
+  abbrev pub IsShutFor : Sight K → AppSight → Ask → Type 0
+  IsShutFor sight app ask = ((node : NodeSight) → IsIn node sight.nodes → IsUnfit ask node) ⊎ (in_limits sight app (zeros K) ask.resource ≡ false)
+
+  -- so is each ask of an application
+  abbrev pub IsShut : Sight K → AppSight → Type 0
+  IsShut sight app = (ask : Ask) → IsIn ask app.asks → IsShutFor sight app ask

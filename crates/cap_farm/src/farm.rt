@@ -1,5 +1,5 @@
 //! What a proposal looks at (`Farm`), and the ring of its nodes (`wrapped`).
-ghost use Rattle.std.specs.Prelude.{◌≡◌, ℕ, ◌<◌, ◌≤◌, IfSome, MatchOption, None, Option, Some, length, option_and_then, option_map};
+ghost use Rattle.std.specs.Prelude.{◌≡◌, ℕ, ◌<◌, ◌≤◌, true, IfSome, MatchOption, None, Option, Some, length, option_and_then, option_map};
 ghost use Rattle.std.specs.List.{slice_get};
 ghost use Rattle.cap_base.specs.Amounts.{fits};
 ghost use Rattle.cap_base.specs.Cascade.{holds_of};
@@ -9,7 +9,7 @@ ghost use Rattle.cap_model.specs.declared.ask.Key.{Key as Wish};
 ghost use Rattle.cap_model.specs.Sight.{AppSight, Sight, seen_app, still_wanted};
 ghost use Rattle.cap_farm.specs.Offers.{IsWhole};
 ghost use Rattle.cap_farm.specs.Ring.{IsReserved, IsTurn, ring_index};
-ghost use Rattle.cap_farm.specs.Rooms.{IsIdle, IsUnfit, in_limits};
+ghost use Rattle.cap_farm.specs.Rooms.{IsIdle, IsShut, IsUnfit, in_limits};
 ghost use Rattle.cap_farm.specs.Service.{HasNoNextApp, IsNextApp};
 
 use cap_model::{Ask, Key, Reservation, ShortText};
@@ -135,6 +135,12 @@ pub trait Farm<const K: usize> {
     fn stays_within(&self, of: Self::App, old: &Resource<K>, new: &Resource<K>) -> bool
         requires { has self.now of }
         ensures { result ≡ in_limits (sight self.now) (shown self.now of) old.now new.now };
+
+    /// Whether it is known at once, with no look at its asks, that none of them may be proposed on a node that holds no reservation:
+    /// each is more than any node takes, or more than its limits allow. False where that is not sure.
+    fn is_shut(&self, of: Self::App) -> bool
+        requires { has self.now of }
+        ensures { result ≡ true → IsShut (sight self.now) (shown self.now of) };
 
     /// How many containers are live.
     fn live(&self) -> usize

@@ -63,7 +63,7 @@ unfit ask nodes first from to t = record { later = t.later; within = t.within; p
 
 -- where no node could take an ask, not even one that is empty, no node takes it
 module _ {K : ℕ} (flat : Flat K) (ask : Ask) where
-  unfit_of : (node : ClusterNode) → could_take ask.place ask.resource node ≡ false → IsUnfit ask (node_sight flat node)
+  pub unfit_of : (node : ClusterNode) → could_take ask.place ask.resource node ≡ false → IsUnfit ask (node_sight flat node)
   unfit_of node off = by (is_none s.reservation) (takes_place ask.place s) (fits ask.resource s.total) (fits ask.resource s.free) refl refl off
     where
       s : NodeSight

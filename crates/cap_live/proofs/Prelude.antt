@@ -1,6 +1,6 @@
 -- What the proofs here take from elsewhere.
 pub use Rattle.cap_asks.proofs.Keeping.{before_not_same}
-pub use Rattle.cap_asks.specs.Accounts.{Account, AreAfter, AreKept, HeldApp, is_before}
+pub use Rattle.cap_asks.specs.Accounts.{Account, AreAfter, AreKept, HeldApp, WantAtLeast, is_before}
 pub use Rattle.cap_asks.specs.Apps.{HeldApps, account_of, is_waiting, position_of}
 pub use Rattle.cap_base.proofs.Amounts.{amounts_fit, fits_amounts}
 pub use Rattle.cap_base.proofs.lists.Filters.{filter_mapped, find_mapped_at, map_same, map_twice}
@@ -15,12 +15,13 @@ pub use Rattle.cap_base.specs.Limits.{resources_max}
 pub use Rattle.cap_base.specs.Members.{IsIn, IsRising}
 pub use Rattle.cap_base.specs.Paths.{is_under}
 pub use Rattle.cap_base.specs.Settings.{QueueRow}
+pub use Rattle.cap_base.specs.Texts.{star}
 pub use Rattle.cap_commit.proofs.RowsAt.{found_row, row_at}
 pub use Rattle.cap_commit.specs.Admission.{load_sight}
 pub use Rattle.cap_commit.specs.ClusterState.{ClusterState, IsRowOf, IsWaitedAt, numbers_of, waits_where}
 pub use Rattle.cap_farm.specs.Offers.{AreByKey, IsWhole}
 pub use Rattle.cap_farm.specs.Ring.{IsReserved, IsTurn, node_after, ring_index}
-pub use Rattle.cap_farm.specs.Rooms.{IsIdle, IsUnfit, in_limits, kind_by_room, taken_as}
+pub use Rattle.cap_farm.specs.Rooms.{IsIdle, IsShut, IsShutFor, IsUnfit, in_limits, kind_by_room, taken_as}
 pub use Rattle.cap_farm.specs.Service.{HasNoNextApp, IsLater, IsNextApp, IsWaiter, app_cmp, levels_to}
 pub use Rattle.cap_laws.proofs.bounds.Wanting.{nodes_on, on_nodes}
 pub use Rattle.cap_laws.proofs.choice.Proposers.{seen_is}
@@ -38,7 +39,7 @@ pub use Rattle.cap_model.specs.declared.ask.Key.{Key}
 pub use Rattle.cap_model.specs.declared.proposal.ProposalKind.TheVariants.{Grant, Reserve}
 pub use Rattle.cap_nodes.proofs.Most.{fits_by_most}
 pub use Rattle.cap_nodes.specs.Loads.{Load}
-pub use Rattle.cap_nodes.specs.Tables.{IsLoadIn, could_take}
+pub use Rattle.cap_nodes.specs.Tables.{IsLoadIn, could_take, empty_sight}
 pub use Rattle.cap_tree.proofs.RowPaths.{along_rows, at_position, none_fails}
 pub use Rattle.cap_tree.specs.Limits.{over_limit}
 pub use Rattle.cap_tree.specs.Measure.{Measure}
@@ -49,7 +50,7 @@ pub use Rattle.cap_tree.specs.Service.{level_of_row, levels_at}
 pub use Rattle.cap_tree.specs.Spot.{HoldsOfItem, IsPosition, first_failing, item_at, path_at}
 pub use Rattle.cap_tree.specs.Waiting.{HasNoWaiter, IsLaterWaiter, IsNextWaiter, waiter_cmp, waiting_at}
 pub use Rattle.cap_vector.proofs.AmountLemmas.{amount-exchanged, amount-less}
-pub use Rattle.cap_vector.specs.Vector.{Fits, amount, amounts_exchanged, less}
+pub use Rattle.cap_vector.specs.Vector.{Fits, amount, amounts_exchanged, less, zeros}
 pub use Rattle.std.proofs.Common.{Bool, List, [], ap, arith, cond, drop, false, inl, inr, length, map, refl, subst, suc, sym, true, zero, ℕ, ◌&&◌, ◌+◌, ◌-◌, ◌<◌, ◌∙◌, ◌∷◌, ◌≡◌, ◌≤◌, ◌⊎◌}
 pub use Rattle.std.proofs.lemmas.Bool.Decides.{nat_tests}
 pub use Rattle.std.proofs.lemmas.Bool.{and_from, and_parts, cases_lt, eqb-true}

@@ -195,6 +195,15 @@ impl<'a, const K: usize> Farm<K> for Live<'a, K> {
         }
     }
 
+    fn is_shut(&self, of: &'a App<K>) -> bool {
+        let nodes = self.cluster.nodes();
+        let least = of.least();
+        if !nodes.may_take(&ShortText::any(), &least) {
+            return true;
+        }
+        !self.stays_within(of, &Resource::zero(), &least)
+    }
+
     fn live(&self) -> usize {
         self.cluster.nodes().live_count()
     }

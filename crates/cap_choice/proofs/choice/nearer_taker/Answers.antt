@@ -1,13 +1,18 @@
 use Rattle.cap_choice.proofs.Prelude.{◌∙◌, ◌≡◌, sym, subst, arith, length, Some, NodeSight, IsFirstTaker, Offer, ComesUpTo, node_after, slice_get}
 use Rattle.cap_choice.proofs.Passing.{closed_passed, fewer, node_at, none_passed, unfit_passed}
 use Rattle.cap_choice.proofs.Reading.{offer_at, read}
-use Rattle.cap_choice.proofs.Walking.{ask_passed, ask_taken, no_asks, nothing_nearer}
+use Rattle.cap_choice.proofs.Walking.{all_shut, ask_passed, ask_taken, no_asks, nothing_nearer}
 use Rattle.cap_choice.proofs.choice.nearer_taker.Goals as goal
 
 pub loop-index-init : goal.loop-index-init
 loop-index-init g c =
     let sight = g.F.Farm.sight c.args.farm.now in
     no_asks sight c.requires.whole c.args.first (g.F.Farm.shown c.args.farm.now c.args.app) c.requires.waits c.args.nearest.turn c.args.nearest.proposal c.requires.nearest
+
+pub returns-then-is_shut : goal.returns-then-is_shut
+returns-then-is_shut g c =
+    let sight = g.F.Farm.sight c.args.farm.now in
+    all_shut sight c.requires.whole c.args.first (g.F.Farm.shown c.args.farm.now c.args.app) c.requires.waits c.args.nearest.turn c.args.nearest.proposal (c.is_shut.ensures c.if-is_shut.true) c.requires.nearest
 
 pub returns-then-nearest-least : goal.returns-then-nearest-least
 returns-then-nearest-least g c =

@@ -1,4 +1,4 @@
-use Rattle.cap_copy.proofs.Prelude.{◌≡◌, ◌<◌, ◌+◌, ◌++◌, ◌∷◌, [], List, refl, rules, sym, subst, ◌∙◌, ap, length, arith, map, take, Some, option_map, slice_get, slice_get-map, slice_get_read, length-map, IsPosition, each_of, HeldApp, take_all, ask_entries, asks_of, indexes, AreSeen, user_used}
+use Rattle.cap_copy.proofs.Prelude.{◌≡◌, ◌<◌, ◌+◌, ◌++◌, ◌∷◌, [], List, refl, sym, subst, ◌∙◌, ap, length, arith, map, take, Some, option_map, slice_get, slice_get-map, slice_get_read, length-map, IsPosition, each_of, HeldApp, take_all, ask_entries, asks_of, indexes, AreSeen, user_used}
 use Rattle.cap_copy.proofs.Fitting.{seen_app_of_few, seen_ask_of_few}
 use Rattle.cap_copy.proofs.LoopSteps.{asks_more, slice_get_in}
 use Rattle.cap_copy.proofs.Seeing.{count_seen, seen_more}
@@ -30,8 +30,8 @@ loop-index-preserved g c =
       asks =
           asks_is ∙ ap (λ es. es ++ more) before.asks
           ∙ sym (asks_more [] (map (λ (r : HeldApp). r.app) waiting) i held.app (slice_get-map (λ (r : HeldApp). r.app) waiting i ∙ ap (option_map (λ (r : HeldApp). r.app)) at));
-      count = omega arith;
-      room = omega arith;
+      count = omega (arith, before.count, c.push_reserved.ensures.len);
+      room = omega (arith, before.room, c.push_reserved.ensures.capacity);
     }
 
 pub drop-seen-requires-room-T-Destruct : goal.drop-seen-requires-room-T-Destruct
@@ -48,7 +48,7 @@ seen_app-requires g c =
     let within : i < length waiting = omega (arith, most, test) in
     let member = slice_get_in waiting i held (slice_get_read waiting (length waiting) i held refl within c.index-waiting-index.is) in
     let there = each_of (λ (r : HeldApp). IsPosition c.args.tree.now r.account.position) waiting c.requires.placed held member in
-    (search rules, (omega arith, (seen_ask_of_few _ few, (seen_app_of_few _ few, subst (λ (h : HeldApp). IsPosition c.args.tree.now h.account.position) (sym c.app.ensures) there))))
+    (c.requires.source.tree, (omega arith, (seen_ask_of_few _ few, (seen_app_of_few _ few, (c.requires.source, (few, subst (λ (h : HeldApp). IsPosition c.args.tree.now h.account.position) (sym c.app.ensures) there))))))
 
 pub count_asks-requires : goal.count_asks-requires
 count_asks-requires g c = ((search), c.requires.resources)

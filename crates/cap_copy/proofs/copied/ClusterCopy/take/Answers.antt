@@ -9,25 +9,15 @@ seen_apps-requires g c =
     let apps = c.args.apps.now in
     let rows = c.args.tree.now in
     let waiting = c.in-Ok.waiting.items in
-    let placed = positions_there rows waiting (placed_all rows apps.accounts apps.table.active waiting c.in-Ok.ensures.apps c.in-Ok.ensures.accounts c.requires.placed) in (
-      search rules,
-      (
-        search rules,
-        (
-          omega (arith, few),
-          (
-            omega (arith, few),
-            (few, (subst (λ (rs : List HeldApp). length rs ≤ applications_max) (sym c.deref.ensures.value) (few_waiting apps.table.active waiting applications_max c.in-Ok.ensures.apps c.requires.few), subst (λ (rs : List HeldApp). All (λ r. IsPosition rows r.account.position) rs) (sym c.deref.ensures.value) placed)),
-          ),
-        ),
-      ),
-    )
+    let placed = positions_there rows waiting (placed_all rows apps.accounts apps.table.active waiting c.in-Ok.ensures.apps c.in-Ok.ensures.accounts c.requires.placed) in
+    let short = subst (λ (rs : List HeldApp). length rs ≤ applications_max) (sym c.deref.ensures.value) (few_waiting apps.table.active waiting applications_max c.in-Ok.ensures.apps c.requires.few) in
+    let there = subst (λ (rs : List HeldApp). All (λ r. IsPosition rows r.account.position) rs) (sym c.deref.ensures.value) placed in
+    (c.requires.fits.source.tree, (search rules, (omega (arith, few), (omega (arith, few), (c.requires.fits.source, (few, (short, there)))))))
 
 pub copy_of-requires : goal.copy_of-requires
 copy_of-requires g c =
-    let few = c.requires.resources in
     let fits = c.requires.fits.snapshot in
-    (search rules, search (tree_in_snapshot, fits))
+    (c.requires.fits.source.tree, (search (tree_in_snapshot, fits), c.requires.fits.source))
 
 pub invariant_of-result : goal.invariant_of-result
 invariant_of-result g c =

@@ -1,3 +1,4 @@
+use denote.Param.{number, param}
 use Rattle.cap_copy.proofs.Prelude.{arith, ap, ◌∙◌, map, subst, sym, AreRows, IsSeenTree}
 use Rattle.cap_copy.proofs.Fitting.{seen_fits}
 use Rattle.cap_tree.proofs.Sizes.{source_fits}
@@ -32,3 +33,6 @@ copy_in-requires-room-T-CopyIn g c κs within = search source_fits
 
 pub copy_in-requires-room-T-Destruct : goal.copy_in-requires-room-T-Destruct
 copy_in-requires-room-T-Destruct g c κs within = search source_fits
+
+pub root-queues-requires : goal.root-queues-requires
+root-queues-requires g c = (c.requires.tree, source_fits (param 0 (number g.row.K)) c.requires.tree)

@@ -2,6 +2,8 @@ use Rattle.cap_copy.proofs.Prelude.{arith, ◌∙◌, ◌≡◌, ◌+◌, ◌++�
 use Rattle.cap_tree.proofs.Callers.{never_grows}
 use Rattle.cap_copy.proofs.Copies.{position-made}
 use Rattle.cap_copy.proofs.Fitting.{seen_fits}
+use Rattle.cap_copy.proofs.NextServed.{once}
+use Rattle.cap_tree.specs.Service.{HasPathsOnce}
 use Rattle.cap_copy.proofs.Waits.{index_of_mark, last_within, links_after, links_at, mark_fits, one_more, same_rows}
 use Rattle.cap_copy.proofs.seen_tree.SeenTree.wait.Goals.{then-last-ne0, else-last-ne0}
 use Rattle.cap_copy.proofs.seen_tree.SeenTree.wait.Goals as goal
@@ -110,3 +112,14 @@ overflow_cast-last g c = let last = c.last-last.type_inv in omega (arith, last)
 
 pub unreachable-unreachable : goal.unreachable-unreachable
 unreachable-unreachable g c = c.unreachable.result
+
+pub change-requires-room-T-Marked : goal.change-requires-room-T-Marked
+change-requires-room-T-Marked g c κs within = search seen_fits
+
+pub change-requires-room-T-Served : goal.change-requires-room-T-Served
+change-requires-room-T-Served g c κs within = search seen_fits
+
+pub change-requires-clause-once : goal.change-requires-clause-once
+change-requires-clause-once g c =
+    let root : c.if-last-ne0.self-inside.root ≡ c.self.inside.root = elim c.if-last-ne0.branch [ then-last-ne0 w ↦ ap (λ s. s.root) w.self-inside-is | else-last-ne0 w ↦ ap (λ s. s.root) w.self-inside-is ] in
+    subst HasPathsOnce (sym root) (once c.self.inside.root (map (λ e. e.0.items) c.self.inside.places.items) c.self.inside.links.items c.self.invariant)

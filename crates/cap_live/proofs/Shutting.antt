@@ -1,0 +1,68 @@
+-- What is allowed or taken of a resource is allowed or taken of a lesser one.
+use Rattle.cap_live.proofs.Prelude.{◌≡◌, ℕ, Bool, true, false, ◌&&◌, List, [], ◌∷◌, Option, Some, None, not, refl, inl, inr, arith, All, and_from, and_parts, amounts_fit, fits_amounts, fits, times, holds_of, list_all, fits_maximum, fits_user_limit, Fits, amounts_exchanged, amount-exchanged, zeros, star, Ask, takes_place, AppSight, ClusterNode, Flat, NodeTable, QueueSight, Sight, node_sight, queues_to, seen_queue, sight_of, could_take, empty_sight, in_limits, of_map, each_of, IsUnfit, IsShut, WantAtLeast, subst}
+use Rattle.cap_live.proofs.Nodes.{unfit_of}
+
+-- a lesser use fits where a greater one does
+fits_lesser : (a b most : List ℕ) → Fits a b → fits b most ≡ true → fits a most ≡ true
+fits_lesser a b most less fit = amounts_fit a most (λ k. let x = less k in let y = fits_amounts b most fit k in omega (arith, x, y))
+
+exchanged_lesser : (old a b used : List ℕ) → Fits a b → Fits (amounts_exchanged old a used) (amounts_exchanged old b used)
+exchanged_lesser old a b used less k = let x = less k in let p = amount-exchanged old a used k in let q = amount-exchanged old b used k in omega (arith, x, p, q)
+
+module _ {A : Type 0} (f g : A → Bool) (then_g : (x : A) → f x ≡ true → g x ≡ true) where
+  all_then : (xs : List A) → list_all f xs ≡ true → list_all g xs ≡ true
+  all_then [] h = refl
+  all_then (x ∷ xs) h = let both = and_parts (f x) (list_all f xs) h in and_from (g x) (list_all g xs) (then_g x both.0) (all_then xs both.1)
+
+  it_then : (o : Option A) → holds_of f o ≡ true → holds_of g o ≡ true
+  it_then None h = h
+  it_then (Some x) h = then_g x h
+
+maximum_lesser : (maximum : Option (List ℕ)) (a b : List ℕ) → Fits a b → fits_maximum maximum b ≡ true → fits_maximum maximum a ≡ true
+maximum_lesser None a b less h = refl
+maximum_lesser (Some most) a b less h = fits_lesser a b most less h
+
+not_true : (b : Bool) → (b ≡ true → ⊥) → b ≡ false
+not_true true h = absurd (h refl)
+not_true false h = refl
+
+pub not_off : (b : Bool) → not b ≡ true → b ≡ false
+not_off true h = absurd (cc h)
+not_off false h = refl
+
+module _ {K : ℕ} (sight : Sight K) (app : AppSight) (old a b : List ℕ) (less : Fits a b) where
+  limits_lesser : in_limits sight app old b ≡ true → in_limits sight app old a ≡ true
+  limits_lesser h =
+      let stays : List ℕ → QueueSight → Bool = λ new q. fits_maximum q.row.maximum (amounts_exchanged old new q.used) in
+      let limit : List ℕ → QueueSight → Bool = λ new q. fits_user_limit q.row.factor q.row.guaranteed (amounts_exchanged old new (q.used_by app.user)) in
+      let both = and_parts (list_all (stays b) (queues_to sight app.leaf)) (holds_of (limit b) (seen_queue sight app.leaf)) h in
+      and_from (list_all (stays a) (queues_to sight app.leaf)) (holds_of (limit a) (seen_queue sight app.leaf))
+      (all_then (stays b) (stays a) (λ q s. maximum_lesser q.row.maximum (amounts_exchanged old a q.used) (amounts_exchanged old b q.used) (exchanged_lesser old a b q.used less) s) (queues_to sight app.leaf) both.0)
+      (it_then (limit b) (limit a) (λ q s. fits_lesser (amounts_exchanged old a (q.used_by app.user)) (amounts_exchanged old b (q.used_by app.user)) (times q.row.factor q.row.guaranteed) (exchanged_lesser old a b (q.used_by app.user) less) s) (seen_queue sight app.leaf) both.1)
+
+  -- what is over a limit with a lesser one is with this one
+  over_with_more : in_limits sight app old a ≡ false → in_limits sight app old b ≡ false
+  over_with_more over = not_true (in_limits sight app old b) (λ h. let t = limits_lesser h in absurd (cc (over, t)))
+
+-- an application whose limits do not allow what its asks want at least
+pub over_limits_shut : {K : ℕ} (sight : Sight K) (app : AppSight) (least : List ℕ) → WantAtLeast least app.asks → in_limits sight app (zeros K) least ≡ false → IsShut sight app
+over_limits_shut {K} sight app least wants over ask m = inr (over_with_more sight app (zeros K) least ask.resource (wants ask m) over)
+
+-- and one of which no node could take that, wherever it is
+module _ {K : ℕ} (flat : Flat K) (least : List ℕ) where
+  no_more_taken : (ask : Ask) → Fits least ask.resource → (node : ClusterNode) → could_take (star ∷ []) least node ≡ false → could_take ask.place ask.resource node ≡ false
+  no_more_taken ask less node off = by (takes_place ask.place (empty_sight node)) (fits ask.resource node.total) refl
+    where
+      small : fits least node.total ≡ true → ⊥
+      small h = absurd (cc (off, h))
+
+      by : (t f : Bool) → fits ask.resource node.total ≡ f → t && f ≡ false
+      by false f e = refl
+      by true false e = refl
+      by true true e = absurd (small (fits_lesser least ask.resource node.total less e))
+
+  pub none_takes_shut : (table : NodeTable) → table ≡ flat.nodes → All (λ node. could_take (star ∷ []) least node ≡ false) table.present → (app : AppSight) → WantAtLeast least app.asks → IsShut (sight_of flat) app
+  none_takes_shut table same none app wants ask m = inl (λ node there.
+      let x = of_map (node_sight flat) flat.nodes.present node there in
+      let here = each_of (λ (n : ClusterNode). could_take (star ∷ []) least n ≡ false) flat.nodes.present (subst (λ (t : NodeTable). All (λ n. could_take (star ∷ []) least n ≡ false) t.present) same none) (x.0) (x.1) in
+      subst (IsUnfit ask) (x.2) (unfit_of flat ask (x.0) (no_more_taken ask (wants ask m) (x.0) here)))
