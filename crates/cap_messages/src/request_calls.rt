@@ -1,23 +1,50 @@
-//! The call that a request names, made on the cluster and answered (`dispatch`).
+//! The call that a request names, made on the cluster and answered (`dispatch`, and `make` for one that is ready).
 ghost use Rattle.cap_model.specs.Reporting.{HasNumbers, RepliesInFull, full_reply};
+ghost use Rattle.std.specs.Prelude.{◌≡◌};
 ghost use Rattle.cap_grammar.specs.Spelling.{IsOfKind, kind_of};
+ghost use Rattle.cap_messages.specs.Ready.{lines_of};
 
+use crate::ready::ReadyRequest;
 use cap_base::RESOURCES;
 use cap_commit::Cluster;
 use cap_masters::{allocate, finish_master, register_master, submit};
 use cap_model::{Reply, Request};
 use cap_trackers::{
-    cluster_info, heartbeat, node_gone, queue_info, refresh, register_node, set_queue_state,
+    ReadSettings, cluster_info, heartbeat, node_gone, queue_info, refresh_with, register_node,
+    set_queue_state,
 };
 use std::alloc::Global;
 
-/// Makes the call that the request names, and answers it; `Cluster::view` lends the reply in full. A refusal changes nothing, and
-/// neither does a failed allocation.
+/// Makes ready the call that the request names, makes it, and answers it; `Cluster::view` lends the reply in full. A refusal changes
+/// nothing, and neither does a failed allocation.
 pub fn dispatch(
     alloc: Global,
     cluster: &mut Cluster<RESOURCES>,
     request: &Request<RESOURCES>,
 ) -> Reply<RESOURCES>
+    ensures replies { RepliesInFull cluster.old.flat request.now result cluster.new.flat }
+    ensures numbers { HasNumbers cluster.new.flat result }
+    ensures kind { IsOfKind (kind_of request.now) (full_reply cluster.new.flat result) }
+{
+    make(cluster, &ReadyRequest::of(alloc, request))
+}
+
+/// Makes the call that a request names which is ready, as `dispatch` does of any: a Refresh takes the settings that were read.
+pub fn make(cluster: &mut Cluster<RESOURCES>, ready: &ReadyRequest<'_>) -> Reply<RESOURCES>
+    ensures replies { RepliesInFull cluster.old.flat ready.now result cluster.new.flat }
+    ensures numbers { HasNumbers cluster.new.flat result }
+    ensures kind { IsOfKind (kind_of ready.now) (full_reply cluster.new.flat result) }
+{
+    make_named(cluster, ready.request, &ready.settings)
+}
+
+/// Makes the call that a request names; a Refresh takes these settings, which are those of its lines.
+fn make_named(
+    cluster: &mut Cluster<RESOURCES>,
+    request: &Request<RESOURCES>,
+    settings: &Option<ReadSettings<'_>>,
+) -> Reply<RESOURCES>
+    requires { settings.now ≡ lines_of request.now }
     ensures replies { RepliesInFull cluster.old.flat request.now result cluster.new.flat }
     ensures numbers { HasNumbers cluster.new.flat result }
     ensures kind { IsOfKind (kind_of request.now) (full_reply cluster.new.flat result) }
@@ -42,6 +69,11 @@ pub fn dispatch(
         Request::QueueInfo { path } => queue_info(cluster, path),
         Request::SetQueueState { path, running } => set_queue_state(cluster, path, *running),
         Request::ClusterInfo => cluster_info(cluster),
-        Request::Refresh { text } => refresh(alloc, cluster, text),
+        Request::Refresh { .. } => {
+            let Some(settings) = settings else {
+                unreachable!()
+            };
+            refresh_with(cluster, settings)
+        }
     }
 }

@@ -37,6 +37,14 @@ made_more {old} {mid} {q} {s} {t} u x (r, (found, (at, more), kind)) =
       seat = told_more s t u x.receipts (map Entered one) x.seat more ∙ ap (λ (ms : List Moment). sitting s.seat (s.past ++ ms)) (sym (map-append Entered x.receipts one) ∙ sym (append-nil (map Entered (x.receipts ++ one))));
     }
 
+-- a seat that stayed the same
+pub made_same : {old mid : SessionState} {left : List (Request resources)} {s t : Sitting} (u : Sitting) → u ≡ t → CallsMade old mid left s t [] → CallsMade old mid left s u []
+made_same {old} {mid} {left} {s} u is x = subst (λ (v : Sitting). CallsMade old mid left s v []) (sym is) x
+
+-- a seat that was answered this more
+pub made_noted : {old mid : SessionState} {left : List (Request resources)} {s t : Sitting} (u : Sitting) (note : List Moment) → CallsMade old mid left s t [] → HasMore t u note → CallsMade old mid left s u note
+made_noted {s = s} {t = t} u note x more = record { calls = x.calls; receipts = x.receipts; are = x.are; requests = x.requests; same = x.same; seat = told_more s t u x.receipts note x.seat more }
+
 -- the next request that was read ahead is open
 pub made_open : {old mid : SessionState} {s t : Sitting} (new : SessionState) (q : Request resources) → CallsMade old mid [] s t [] → OpensNext mid new (Some q) → CallsMade old new (q ∷ []) s t []
 made_open {old} {mid} new q x (o, same, is, opens) = record {
@@ -46,6 +54,28 @@ made_open {old} {mid} new q x (o, same, is, opens) = record {
   requests = ap (λ (v : SessionState). open_requests v.opens) opens ∙ map-append (λ (p : OpenRequest). p.request) mid.opens (o ∷ []) ∙ ap₂ (λ (l : List (Request resources)) (p : Request resources). l ++ p ∷ []) (x.requests ∙ append-nil (requests_of x.calls)) same;
   same = opens ∙ ap (λ (v : SessionState). record v { opens = mid.opens ++ o ∷ [] }) x.same ∙ ap (λ (l : List OpenRequest). record old { opens = l }) (sym (ap (λ (v : SessionState). v.opens) opens));
   seat = x.seat;
+}
+
+-- then one more is open, and nothing more was fed
+pub opens_more : (mid new : SessionState) (q : Request resources) → OpensNext mid new (Some q) → (length new.opens ≡ length mid.opens + 1) × (length new.fed ≡ length mid.fed) × (new.fed ≡ mid.fed)
+opens_more mid new q (o, same, is, opens) =
+    (omega (arith, ap (λ (v : SessionState). length v.opens) opens, length-append mid.opens (o ∷ [])), ap (λ (v : SessionState). length v.fed) opens, ap (λ (v : SessionState). v.fed) opens)
+
+-- calls after some that were made; as many requests of what was fed are open, or more
+pub record CallsSoFar (old mid : SessionState) (s t : Sitting) : Type 0 where
+  pub calls : (opening : SessionState) (earlier : Sitting) → CallsMade opening old [] earlier s [] → CallsMade opening mid [] earlier t []
+  pub more : length old.opens ≤ length mid.opens
+  pub fed : mid.fed ≡ old.fed
+
+pub none_so_far : (t : SessionState) (s : Sitting) → CallsSoFar t t s s
+none_so_far t s = record { calls = λ opening earlier before. before; more = omega arith; fed = refl }
+
+-- the next request was opened and called
+pub one_more : {old mid : SessionState} {s t : Sitting} (new : SessionState) (q : Request resources) (u : Sitting) → CallsSoFar old mid s t → OpensNext mid new (Some q) → IsCalled q t u → CallsSoFar old new s u
+one_more {old} {mid} new q u x opens called = record {
+  calls = λ opening earlier before. made_more u (made_open new q (x.calls opening earlier before) opens) called;
+  more = omega (arith, x.more, (opens_more mid new q opens).0);
+  fed = (opens_more mid new q opens).2 ∙ x.fed;
 }
 
 frames_count : (ps : List (List ℕ)) → length ps ≤ length (frames_of ps)

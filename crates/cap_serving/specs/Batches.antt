@@ -1,11 +1,11 @@
 -- What answering requests together does.
-use Rattle.std.specs.Prelude.{◌≡◌, ℕ, List, [], ◌∷◌, ◌++◌, length, map, Option, Some, None, false}
+use Rattle.std.specs.Prelude.{◌≡◌, ℕ, ◌<◌, List, [], ◌∷◌, ◌++◌, length, map, Option, Some, None, false}
 use Rattle.cap_base.specs.Limits.{resources}
 use Rattle.cap_model.specs.declared.request.Request.{Request}
 use Rattle.cap_model.specs.Events.{is_no_memory}
 use Rattle.cap_grammar.specs.Spelling.{IsOfKind, kind_of}
 use Rattle.cap_session.specs.Answers.{Call}
-use Rattle.cap_session.specs.Session.{SessionState, OpenRequest, open_requests, Continues}
+use Rattle.cap_session.specs.Session.{SessionState, IsSession, OpenRequest, open_requests, Continues}
 use Rattle.cap_shared.specs.Calls.{HasMore}
 use Rattle.cap_shared.specs.declared.entry.Entry.{Entry}
 use Rattle.cap_shared.specs.declared.entry.Receipt.{Receipt}
@@ -16,6 +16,8 @@ use Rattle.cap_shared.specs.declared.history.Moment.TheVariants.{Entered, Noted}
 use Rattle.cap_shared.specs.declared.history.Sitting.{Sitting}
 use Rattle.cap_serving.specs.declared.batches.Called.{Called}
 use Rattle.cap_serving.specs.declared.batches.Called.TheVariants as called
+use Rattle.cap_serving.specs.declared.batches.GivenBack.{GivenBack}
+use Rattle.cap_serving.specs.declared.batches.GivenBack.TheVariants as back
 use Rattle.cap_serving.specs.Sessions.{Serves, IsSealed}
 
 abbrev pub requests_of : List (Call resources) → List (Request resources)
@@ -42,6 +44,26 @@ abbrev pub CallsAll : ℕ → SessionState → SessionState → Sitting → Sitt
 CallsAll limit old new before after called.Made = CallsMade old new [] before after []
 CallsAll limit old new before after called.Starved = (request : Request resources) × CallsMade old new (request ∷ []) before after []
 CallsAll limit old new before after (called.Sealed back) = (entries : List Entry) × (length entries ≡ limit) × CallsMade old new (back ∷ []) before after (Noted entries (answer.SealedCall back) ∷ [])
+
+-- the calls under one hold ended so, or all were made up to this one, which is open
+abbrev pub IsGivenBack : ℕ → SessionState → SessionState → Sitting → Sitting → GivenBack → Type 0
+IsGivenBack limit old new before after (back.Ended outcome) = CallsAll limit old new before after outcome
+IsGivenBack limit old new before after (back.Unread next) = CallsMade old new (next ∷ []) before after []
+
+-- whatever was called before, with these requests left: what was called in all
+abbrev pub CallsOn : ℕ → List (Request resources) → SessionState → SessionState → Sitting → Sitting → GivenBack → Type 0
+CallsOn limit left old new before after outcome = (opening : SessionState) (earlier : Sitting) → CallsMade opening old left earlier before [] → IsGivenBack limit opening new earlier after outcome
+
+-- more requests of what was fed are open
+pub record IsFurther (old new : SessionState) : Type 0 where
+  pub more : length old.opens < length new.opens
+  pub fed : new.fed ≡ old.fed
+  pub session : IsSession new
+
+-- so there is an end of holds
+abbrev pub GoesFurther : SessionState → SessionState → GivenBack → Type 0
+GoesFurther old new (back.Ended outcome) = Unit {0}
+GoesFurther old new (back.Unread next) = IsFurther old new
 
 -- these calls are of the first open requests, with these receipts
 pub record IsAnsweredBy (opens : List OpenRequest) (receipts : List Receipt) (calls : List (Call resources)) : Type 0 where

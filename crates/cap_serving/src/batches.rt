@@ -1,14 +1,15 @@
-//! The requests of a session that have come, called together under one lock, and answered (`answer_batch`).
+//! The requests of a session that have come, called together under one lock, and answered (`answer_batch`). The lock is given back
+//! where property lines are to be read.
 ghost use Rattle.std.specs.Prelude.{◌≡◌, List, [], ◌∷◌, None};
 ghost use Rattle.cap_base.specs.Limits.{resources};
 ghost use Rattle.cap_session.specs.Answers.{Call};
 ghost use Rattle.cap_session.specs.Session.{open_requests};
-ghost use Rattle.cap_serving.specs.Batches.{CallsAll, IsAnsweredBy, AnsweredAll, IsBatchMade};
+ghost use Rattle.cap_serving.specs.Batches.{CallsAll, CallsOn, GoesFurther, IsAnsweredBy, AnsweredAll, IsBatchMade};
 
 use cap_base::RESOURCES;
 use cap_model::{Refusal, ReplyWith, Request};
 use cap_session::Session;
-use cap_shared::{Fault, Naming, Receipt, Seat, Shared};
+use cap_shared::{Fault, Hold, Naming, ReadyRequest, Receipt, Seat, Shared};
 use std::sync::Wait;
 
 /// What became of the calls of some requests.
@@ -22,9 +23,19 @@ pub(crate) enum Called {
     Sealed(Request<RESOURCES>),
 }
 
+/// What became of the calls under one hold.
+#[derive(Drop)]
+pub(crate) enum GivenBack {
+    /// The calls ended so.
+    Ended(Called),
+    /// Those before this Refresh were made. It is open, and its property lines are to be read while the cluster is not held.
+    Unread(Request<RESOURCES>),
+}
+
 /// Answers the open request and those that have come after it, up to a payload that is none: they are read before the cluster is held,
-/// called while it is held once, and their replies are written down after, out of the receipts. Where an allocation fails for one, those
-/// after it are left. Where the journal is full, the request that was not called is open, and comes back.
+/// called while it is held, and their replies are written down after, out of the receipts. It is held once, and once more for each Refresh
+/// that is not the first, whose property lines are read in between. Where an allocation fails for one, those after it are left. Where the
+/// journal is full, the request that was not called is open, and comes back.
 pub(crate) fn answer_batch<J: Naming, H: Wait>(
     rt: &H,
     shared: &Shared<J>,
@@ -51,8 +62,8 @@ pub(crate) fn answer_batch<J: Naming, H: Wait>(
     }
 }
 
-/// Makes the calls, in order, while it holds the cluster. Where an allocation fails for one, or where the journal is full, those after it
-/// are left.
+/// Makes the calls, in order: it holds the cluster for some, gives it back where property lines are to be read, and so on. Where an
+/// allocation fails for one, or where the journal is full, those after it are left.
 fn call_all<J: Naming, H: Wait>(
     rt: &H,
     shared: &Shared<J>,
@@ -63,18 +74,65 @@ fn call_all<J: Naming, H: Wait>(
     requires { open_requests session.old.opens ≡ first ∷ [] }
     ensures { CallsAll J.limit session.old session.new seat.old seat.new result }
 {
-    let mut held = shared.hold(rt);
     let mut request = first;
     loop {
-        match held.call(seat, &request) {
-            Ok(()) => {}
-            Err(Fault::NoMemory) => return Called::Starved,
-            Err(Fault::Sealed) => return Called::Sealed(request),
+        match call_held(rt, shared, seat, session, request) {
+            GivenBack::Ended(called) => return called,
+            GivenBack::Unread(next) => request = next,
         }
+    }
+}
+
+/// Makes the call of the request that was opened last, whose property lines are read first, and of those after it up to a Refresh. The
+/// cluster is held for the calls alone.
+fn call_held<J: Naming, H: Wait>(
+    rt: &H,
+    shared: &Shared<J>,
+    seat: &mut Seat<J>,
+    session: &mut Session,
+    first: Request<RESOURCES>,
+) -> GivenBack
+    ensures calls { CallsOn J.limit (first ∷ [])
+        session.old session.new seat.old seat.new result }
+    ensures further { GoesFurther session.old session.new result }
+{
+    let ready = shared.ready(&first);
+    let mut held = shared.hold(rt);
+    match held.call(seat, &ready) {
+        Ok(()) => call_rest(&mut held, seat, session),
+        Err(Fault::NoMemory) => GivenBack::Ended(Called::Starved),
+        Err(Fault::Sealed) => {
+            drop(held);
+            drop(ready);
+            GivenBack::Ended(Called::Sealed(first))
+        }
+    }
+}
+
+/// Opens the requests that were read ahead and makes their calls, in order, up to a Refresh, which is opened alone.
+fn call_rest<J: Naming>(
+    held: &mut Hold<'_, J>,
+    seat: &mut Seat<J>,
+    session: &mut Session,
+) -> GivenBack
+    ensures calls { CallsOn J.limit [] session.old session.new seat.old seat.new result }
+    ensures further { GoesFurther session.old session.new result }
+{
+    loop {
         let Some(next) = session.next_ahead() else {
-            return Called::Made;
+            return GivenBack::Ended(Called::Made);
         };
-        request = next;
+        let Some(ready) = ReadyRequest::at_once(&next) else {
+            return GivenBack::Unread(next);
+        };
+        match held.call(seat, &ready) {
+            Ok(()) => {}
+            Err(Fault::NoMemory) => return GivenBack::Ended(Called::Starved),
+            Err(Fault::Sealed) => {
+                drop(ready);
+                return GivenBack::Ended(Called::Sealed(next));
+            }
+        }
     }
 }
 

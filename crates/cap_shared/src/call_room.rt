@@ -11,7 +11,7 @@ ghost use Rattle.cap_shared.specs.Rooms.{IsRoomFor, AreRoomsFor, HasRoomsFor, Ar
 use crate::entry::Receipt;
 use cap_base::RESOURCES;
 use cap_commit::Cluster;
-use cap_messages::dispatch;
+use cap_messages::{ReadyRequest, make};
 use cap_model::{
     AllocateReply, NoMemory, OwnedReply, Refusal, Reply, ReplyRoom, ReplyWith, Request,
     StoredRequest,
@@ -146,17 +146,17 @@ impl CallRoom {
     }
 }
 
-/// Makes the call that a request names. What is entered of it is a step of the run: the reply is the reply function's, and so is the cluster.
+/// Makes the call that a request names which is ready. What is entered of it is a step of the run: the reply is the reply function's, and
+/// so is the cluster.
 pub(crate) fn make_call(
-    alloc: Global,
     cluster: &mut Cluster<RESOURCES>,
-    request: &Request<RESOURCES>,
+    ready: &ReadyRequest<'_>,
 ) -> Reply<RESOURCES>
-    ensures replies { RepliesInFull cluster.old.flat request.now result cluster.new.flat }
+    ensures replies { RepliesInFull cluster.old.flat ready.now result cluster.new.flat }
     ensures numbers { HasNumbers cluster.new.flat result }
-    ensures kind { IsOfKind (kind_of request.now) (full_reply cluster.new.flat result) }
+    ensures kind { IsOfKind (kind_of ready.now) (full_reply cluster.new.flat result) }
 {
-    dispatch(alloc, cluster, request)
+    make(cluster, ready)
 }
 
 /// Whether a reply says that no memory was found, so that the call changed nothing.

@@ -8,6 +8,7 @@ ghost use Rattle.cap_shared.specs.Following.{deed_of, IsMadeAgain};
 use crate::call_room::{is_no_memory, make_call};
 use cap_base::RESOURCES;
 use cap_commit::Cluster;
+use cap_messages::ReadyRequest;
 use cap_model::{
     Event, NoMemory, OwnedReply, Proposal, ProposalKind, Refusal, ReplyWith, StoredRequest,
 };
@@ -90,7 +91,7 @@ fn call_again(
     ensures err { OnErr result (cluster.new.flat ≡ cluster.old.flat) }
 {
     let request = request.request(alloc)?;
-    let answer = make_call(alloc, cluster, &request);
+    let answer = make_call(cluster, &ReadyRequest::of(alloc, &request));
     if is_no_memory(&answer) {
         return Err(NoMemory);
     }

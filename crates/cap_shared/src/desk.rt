@@ -24,6 +24,7 @@ use bumpalo::Bump;
 use cap_base::RESOURCES;
 use cap_commit::Cluster;
 use cap_copy::ClusterCopy;
+use cap_messages::ReadyRequest;
 use cap_model::{Event, NoMemory, OwnedReply, Proposal, Request, Verdict};
 use cap_sights::copy_in;
 use cap_vector::Resource;
@@ -67,23 +68,23 @@ impl<J: Naming> Desk<J> {
         self.journal.len()
     }
 
-    /// Makes a call, with an entry and a receipt, which has its reply; both share the lists of the request. A full journal is told
+    /// Makes a call that is ready, with an entry and a receipt, which has its reply; both share the lists of the request. A full journal is told
     /// first, and noted; if an allocation fails nothing changes.
     pub fn call(
         &mut self,
         alloc: Global,
         word: &Word,
         seat: &mut Seat<J>,
-        request: &Request<RESOURCES>,
+        ready: &ReadyRequest<'_>,
     ) -> Result<(), Fault>
         requires word { (word.now.table_id ≡ J.table) × (0 < word.now.table_id.words) }
         ensures answer { MatchResult result
-            (λ _. IsCalledOn self.old.cluster request.now self.new.cluster seat.old seat.new)
-            (CallMisses request.now J.limit seat.old seat.new) }
+            (λ _. IsCalledOn self.old.cluster ready.now self.new.cluster seat.old seat.new)
+            (CallMisses ready.now J.limit seat.old seat.new) }
         ensures full { IfErr result (TellsFull J.limit self.old.log) }
     {
-        if self.journal.len() >= self.limit || self.answer(alloc, word, seat, request).is_err() {
-            return Err(self.miss(word, seat, request));
+        if self.journal.len() >= self.limit || self.answer(alloc, word, seat, ready).is_err() {
+            return Err(self.miss(word, seat, ready.request()));
         }
         Ok(())
     }
@@ -94,17 +95,17 @@ impl<J: Naming> Desk<J> {
         alloc: Global,
         word: &Word,
         seat: &mut Seat<J>,
-        request: &Request<RESOURCES>,
+        ready: &ReadyRequest<'_>,
     ) -> Result<OwnedReply<RESOURCES>, Fault>
         requires word { (word.now.table_id ≡ J.table) × (0 < word.now.table_id.words) }
-        ensures answer { MatchResult result (CallsOk request.now seat.old seat.new)
-            (CallMisses request.now J.limit seat.old seat.new) }
+        ensures answer { MatchResult result (CallsOk ready.now seat.old seat.new)
+            (CallMisses ready.now J.limit seat.old seat.new) }
         ensures full { IfErr result (TellsFull J.limit self.old.log) }
     {
-        let Ok(room) = self.cluster.reply_room(alloc, request) else {
-            return Err(self.miss(word, seat, request));
+        let Ok(room) = self.cluster.reply_room(alloc, ready.request()) else {
+            return Err(self.miss(word, seat, ready.request()));
         };
-        self.call(alloc, word, seat, request)?;
+        self.call(alloc, word, seat, ready)?;
         match seat.receipts().last() {
             Some(Receipt::Call { reply, .. }) => Ok(room.own(&reply.view())),
             Some(Receipt::Commit { .. }) => unreachable!(),
@@ -133,19 +134,20 @@ impl<J: Naming> Desk<J> {
         alloc: Global,
         word: &Word,
         seat: &mut Seat<J>,
-        request: &Request<RESOURCES>,
+        ready: &ReadyRequest<'_>,
     ) -> Result<(), NoMemory>
         requires word { (word.now.table_id ≡ J.table) × (0 < word.now.table_id.words) }
         requires room { length self.old.log < J.limit }
         ensures answer { MatchResult result
-            (λ _. IsCalledOn self.old.cluster request.now self.new.cluster seat.old seat.new)
+            (λ _. IsCalledOn self.old.cluster ready.now self.new.cluster seat.old seat.new)
             (λ _. seat.new ≡ seat.old) }
         ensures same { OnErr result (self.new.log ≡ self.old.log) }
     {
+        let request = ready.request();
         let Ok(room) = CallRoom::of(alloc, &self.cluster, &mut seat.receipts, request) else {
             return Err(NoMemory);
         };
-        let answer = make_call(alloc, &mut self.cluster, request);
+        let answer = make_call(&mut self.cluster, ready);
         if is_no_memory(&answer) {
             return Err(NoMemory);
         }

@@ -22,6 +22,7 @@ mod turnstile;
 mod word_rule;
 
 pub use blank::Blank;
+pub use cap_messages::ReadyRequest;
 pub use closed::{Closed, SeatReport};
 pub use entry::{Entry, Receipt};
 pub use faults::{CallFault, CommitFault, Fault};

@@ -27,6 +27,7 @@ use bumpalo::Bump;
 use cap_base::RESOURCES;
 use cap_commit::Cluster;
 use cap_copy::{ClusterCopy, Snapshot};
+use cap_messages::ReadyRequest;
 use cap_model::{NoMemory, OwnedReply, Proposal, Request, Verdict};
 use std::alloc::Global;
 use std::marker::PhantomData;
@@ -87,26 +88,25 @@ impl<'a, J: Naming> Drop for Hold<'a, J> {
 }
 
 impl<'a, J: Naming> Hold<'a, J> {
-    /// Makes a call, as `Shared::call`; its reply is in the last receipt of the seat. The entry and the receipt share the lists of the
-    /// request.
-    pub fn call(&mut self, seat: &mut Seat<J>, request: &Request<RESOURCES>) -> Result<(), Fault>
-        ensures answer { MatchResult result (λ _. IsCalled request.now seat.old seat.new)
-            (CallMisses request.now J.limit seat.old seat.new) }
+    /// Makes a call that is ready, as `Shared::call`; its reply is in the last receipt of the seat. The entry and the receipt share the
+    /// lists of the request.
+    pub fn call(&mut self, seat: &mut Seat<J>, ready: &ReadyRequest<'_>) -> Result<(), Fault>
+        ensures answer { MatchResult result (λ _. IsCalled ready.now seat.old seat.new)
+            (CallMisses ready.now J.limit seat.old seat.new) }
     {
-        self.desk.call(self.alloc, self.word, seat, request)
+        self.desk.call(self.alloc, self.word, seat, ready)
     }
 
     /// The same call with its reply in memory of its own.
     fn call_for_reply(
         &mut self,
         seat: &mut Seat<J>,
-        request: &Request<RESOURCES>,
+        ready: &ReadyRequest<'_>,
     ) -> Result<OwnedReply<RESOURCES>, Fault>
-        ensures answer { MatchResult result (CallsOk request.now seat.old seat.new)
-            (CallMisses request.now J.limit seat.old seat.new) }
+        ensures answer { MatchResult result (CallsOk ready.now seat.old seat.new)
+            (CallMisses ready.now J.limit seat.old seat.new) }
     {
-        self.desk
-            .call_for_reply(self.alloc, self.word, seat, request)
+        self.desk.call_for_reply(self.alloc, self.word, seat, ready)
     }
 
     /// Makes a proposal if it is admissible, as `Shared::commit`.
@@ -161,6 +161,7 @@ impl<'a, J: Naming> Hold<'a, J> {
 impl<J: Naming> Shared<J> {
     /// Makes a call. It is entered in the journal, whatever it is answered, and the seat has a receipt. If the journal is full, or if
     /// an allocation fails, the request comes back and nothing changes; `Refusal::NoMemory` is never a reply. A full journal is told first.
+    /// The property lines of a Refresh are read before the cluster is held.
     pub fn call<R: Wait>(
         &self,
         rt: &R,
@@ -170,12 +171,21 @@ impl<J: Naming> Shared<J> {
         ensures { MatchResult result (CallsOk request seat.old seat.new)
             (CallsBack request J.limit seat.old seat.new) }
     {
-        let answer = self.hold(rt).call_for_reply(seat, &request);
+        let ready = self.ready(&request);
+        let answer = self.hold(rt).call_for_reply(seat, &ready);
+        drop(ready);
         match answer {
             Ok(reply) => Ok(reply),
             Err(Fault::Sealed) => Err(CallFault::Sealed(request)),
             Err(Fault::NoMemory) => Err(CallFault::NoMemory(request)),
         }
+    }
+
+    /// Makes a request ready for `Hold::call`: the property lines of a Refresh are read here. It takes no lock.
+    pub fn ready<'a>(&self, request: &'a Request<RESOURCES>) -> ReadyRequest<'a>
+        ensures { result ≡ request.now }
+    {
+        ReadyRequest::of(self.alloc, request)
     }
 
     /// Holds the cluster for some calls, which then take the lock once.

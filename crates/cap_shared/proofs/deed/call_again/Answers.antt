@@ -9,5 +9,5 @@ returns-clause-ok c =
     let old = c.args.cluster.now.flat in
     let new = c.make_call-answer.new.cluster.flat in
     let answered = sym (c.is_no_memory.ensures new) ∙ c.if-is_no_memory.false in
-    let made = call_made_again old new c.in_ok-request.request (full_reply new c.make_call-answer.result) c.make_call-answer.ensures.replies answered in
+    let made = call_made_again old new c.in_ok-request.request (full_reply new c.make_call-answer.result) (rw c.of.ensures at c.make_call-answer.ensures.replies) answered in
     subst (λ (r : Request resources). IsMadeAgain old (deed.Call r) new) c.in_ok-request.ensures made

@@ -8,13 +8,13 @@ use Rattle.cap_shared.proofs.desk.Desk.answer.Goals as goal
 pub own_copies-copies-requires-clause-room : goal.own_copies-copies-requires-clause-room
 own_copies-copies-requires-clause-room g c =
     let new = c.make_call-answer.new.cluster.flat in
-    c.in-Ok.ensures.ok.news (full_reply new c.make_call-answer.result) new c.make_call-answer.ensures.replies
+    (rw c.request-request.ensures at c.in-Ok.ensures.ok).news (full_reply new c.make_call-answer.result) new c.make_call-answer.ensures.replies
 
 pub invariant_of-self : goal.invariant_of-self
 invariant_of-self g c =
     let new = c.make_call-answer.new.cluster.flat in
     let none = sym (c.is_no_memory.ensures new) ∙ c.if-is_no_memory.true in
-    let same = unchanged c.self.inside.cluster.flat new c.args.request.now (full_reply new c.make_call-answer.result) c.make_call-answer.ensures.replies none in
+    let same = unchanged c.self.inside.cluster.flat new c.args.ready.now (full_reply new c.make_call-answer.result) c.make_call-answer.ensures.replies none in
     subst (λ (x : Flat resources). IsDesk g.J.Naming.table g.J.Naming.opening g.J.Naming.limit g.J.Naming.seats x c.self.inside.journal.items c.self.inside.pass.table_id c.self.inside.pass.me c.self.inside.limit (vec_capacity c.self.inside.journal)) (sym same) c.self.invariant
 
 pub invariant_of-self-2 : goal.invariant_of-self-2
@@ -25,7 +25,7 @@ invariant_of-self-2 g c =
     let called = event.Call c.seat.inside.number c.in-Ok.room.entry copies.result.entry in
     let len = c.self.inside.journal.ok.0 in
     let log : length c.self.inside.journal.items ≡ length c.args.self.now.log = ap (λ (v : Content). length v.log) c.self.view_is in
-    let step = call_step c.self.inside.cluster.flat new c.seat.inside.number c.args.request.now _ reply _ c.make_call-answer.ensures.replies c.in-Ok.ensures.ok.entry copies.ensures.entry in
+    let step = call_step c.self.inside.cluster.flat new c.seat.inside.number c.args.ready.now _ reply _ c.make_call-answer.ensures.replies (c.in-Ok.ensures.ok.entry ∙ c.request-request.ensures) copies.ensures.entry in
     entered_desk _ _ _ _ c.self.inside.journal.items c.self.inside.pass c.enter.new.desk c.seat.inside.pass c.enter.new.seat c.self.inside.cluster.flat new _ _ _ (record { seat = c.seat.inside.number; event = called })
     (receipt.Call c.next_position-position.result c.in-Ok.room.receipt copies.result.receipt) _ c.self.invariant c.enter.ensures.entered step (c.seat.invariant.below, refl) (omega (arith, c.requires.room, c.self.invariant.limit_is)) c.enter.ensures.journal c.enter.ensures.capacity
 

@@ -1,9 +1,0 @@
-use Rattle.std.proofs.Common.{sym, ◌∙◌}
-use Rattle.cap_trackers.proofs.SettingLines.{is_set}
-use Rattle.cap_trackers.proofs.refreshing.refresh.Goals as goal
-
-pub returns-clause-replies : goal.returns-clause-replies
-returns-clause-replies c =
-    let is = rw c.as_slice-text.ensures.value at c.in-Ok.ensures.settings in
-    let same = rw (c.tree.ensures.rows, c.tree.ensures.queues) at c.same_paths.ensures in
-    is_set c.args.cluster.now.flat c.set_settings.new.self.flat c.args.text.now c.in-Ok.config c.text_has_one_answer.ensures c.settings_have_each_amount.ensures is (sym same ∙ c.if-not-same_paths.false) c.set_settings.ensures.flat
