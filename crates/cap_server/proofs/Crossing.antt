@@ -35,7 +35,7 @@ module _ (J : RattleType) (epoch : naming.Ghosts J.Denot) where
   Scheduled-send s =
       view_send (scheduled.the_row J epoch) _ _ _ _ (recorded_send (scheduled.the_field J epoch).row _ _ (scheduled.the_type J epoch).to_one (struct_send (shape (scheduled.the_type J epoch)) (
         (search (crosses, sendable) depth 60),
-        ((search (Follower-send, crosses, sendable) depth 60), ((search (ended.the_send, crosses, sendable) depth 60), tt)),
+        ((search (crosses, sendable) depth 60), ((search (Follower-send, crosses, sendable) depth 60), ((search (ended.the_send, crosses, sendable) depth 60), tt))),
       )))
 
   pub Task-send : IsSend J → IsSend (Task.the_row J epoch)

@@ -1,16 +1,15 @@
 -- Workers at the end of an epoch.
-use Rattle.cap_workers.proofs.Prelude.{◌≡◌, ℕ, zero, suc, ◌+◌, List, [], ◌∷◌, ◌++◌, Option, inl, inr, ap, arith, refl, sym, subst, ◌∙◌, append_assoc, drop, take, drop-append_seam, take-append_seam, length, length-append, map, map-append, resources, Flat, Entry, Sitting, sitting}
+use Rattle.cap_workers.proofs.Prelude.{◌≡◌, ℕ, zero, suc, ◌+◌, List, [], ◌∷◌, ◌++◌, inl, inr, ap, arith, refl, sym, subst, ◌∙◌, append_assoc, drop, take, drop-append_seam, take-append_seam, length, length-append, map, map-append, resources, Flat, Entry, Sitting, sitting}
 use mathlib.Core.List.{IsPrefix}
 use Rattle.std.specs.List.{All}
-use Rattle.std.proofs.lemmas.List.Elements.{All-cons, All-drop, All-head, All-map, All-nil, All-push, All-take, All-weaker}
+use Rattle.std.proofs.lemmas.List.Elements.{All-cons, All-drop, All-head, All-nil, All-push, All-take, All-weaker}
 use Rattle.cap_base.proofs.lists.Members.{in_left, in_right}
 use Rattle.cap_shared.specs.Following.{Follows}
 use Rattle.cap_shared.specs.WordRule.{AllFit, Fits, fresh}
 use Rattle.cap_shared.proofs.Following.{follows_begins}
 use Rattle.cap_base.specs.Members.{IsIn}
-use Rattle.cap_lanes.specs.Sides.{WorkerSide}
-use Rattle.cap_workers.specs.Idle.{AllAre, AllBegin, AllLeft, HasLeft, HasSeat, IsFresh}
-use Rattle.cap_workers.specs.Scheduling.{Works}
+use Rattle.cap_workers.specs.Idle.{AllAre, AllBegin, AllFollowed, HasFollowed, HasSeat, HasSpell, IsFresh}
+use Rattle.cap_workers.specs.Scheduling.{spell, Work, Works}
 use Rattle.cap_workers.specs.declared.idle.IdleWorker.{IdleWorker}
 use Rattle.cap_shared.specs.Parts.{Content}
 use Rattle.cap_workers.specs.declared.worker.Worker.{Worker}
@@ -20,38 +19,47 @@ pub at_middle : {X : Type 0} (P : X → Type 0) (yielded rest later all : List X
 at_middle {X} P yielded rest later all x whole step h =
     All-head P x later (subst (λ (xs : List X). All P xs) (ap (drop (length yielded)) (sym whole) ∙ drop-append_seam yielded rest ∙ step) (All-drop P (length yielded) all h))
 
-more_seats : (opening : Flat resources) (limit : ℕ) (seats : List Sitting) (s : Sitting) (w : Worker × Content) → HasLeft opening limit seats w → HasLeft opening limit (seats ++ s ∷ []) w
-more_seats opening limit seats s w (seat, is, follows) = (seat, record { member = in_left seat seats (s ∷ []) is.member; ended = is.ended; works = is.works }, follows)
+-- one worker more leaves, and its seat comes to the others: it was answered what the worker did
+still_seated : (opening : Flat resources) (limit : ℕ) (seats : List Sitting) (s : Sitting) (w : Worker × Worker) → HasSpell opening limit seats w → HasSpell opening limit (seats ++ s ∷ []) w
+still_seated opening limit seats s w h = record { seat = h.seat; member = in_left h.seat seats (s ∷ []) h.member; ended = h.ended; works = h.works }
 
--- one worker more leaves, and its seat comes to the others
-pub one_leaves : (opening : Flat resources) (limit : ℕ) (seats seats' : List Sitting) (leaving leaving' : List (Worker × Content)) (s : Sitting) (w : Worker × Content) (ended : Option WorkerSide) → seats' ≡ seats ++ s ∷ [] → leaving' ≡ leaving ++ w ∷ [] →
-    AllLeft opening limit seats leaving → Works opening limit w.0 s ended → Follows w.1.log s.past → AllLeft opening limit seats' leaving'
-one_leaves opening limit seats seats' leaving leaving' s w ended seats_are leaving_are all works follows =
-    let P : Worker × Content → Type 0 = HasLeft opening limit (seats ++ s ∷ []) in
-    let new : P w = (s, record { member = in_right s seats (s ∷ []) (inl refl); ended = ended; works = works }, follows) in
-    rw (seats_are, leaving_are) (All-push P leaving w (All-weaker (HasLeft opening limit seats) P (λ (x : Worker × Content) h. more_seats opening limit seats s x h) leaving all) new)
+pub one_works : (opening : Flat resources) (limit : ℕ) (seats seats' : List Sitting) (yielded : List Work) (one : Work) (s : Sitting) → seats' ≡ seats ++ s ∷ [] → s ≡ one.seat → Works opening limit one.first one.worker one.seat one.ended →
+    All (HasSpell opening limit seats) (map spell yielded) → All (HasSpell opening limit seats') (map spell (yielded ++ one ∷ []))
+one_works opening limit seats seats' yielded one s seats_are is works all =
+    let P : Worker × Worker → Type 0 = HasSpell opening limit (seats ++ s ∷ []) in
+    let new : P (spell one) = record { seat = s; member = in_right s seats (s ∷ []) (inl refl); ended = one.ended; works = subst (λ (x : Sitting). Works opening limit one.first one.worker x one.ended) (sym is) works } in
+    let pushed : All P (map spell yielded ++ spell one ∷ []) = All-push P (map spell yielded) (spell one) (All-weaker (HasSpell opening limit seats) P (λ (x : Worker × Worker) h. still_seated opening limit seats s x h) (map spell yielded) all) new in
+    rw (seats_are, map-append spell yielded (one ∷ [])) pushed
 
-pub same_works : (opening : Flat resources) (limit : ℕ) (ended : Option WorkerSide) {w w' : Worker} {s s' : Sitting} → Works opening limit w s ended → w' ≡ w → s' ≡ s → Works opening limit w' s' ended
-same_works opening limit ended works worker seat = rw (worker, seat) works
+-- each has a seat, however it began
+pub all_seated : (opening : Flat resources) (limit : ℕ) (seats : List Sitting) (works : List Work) → All (HasSpell opening limit seats) (map spell works) → All (HasSeat opening limit seats) (map (λ w. w.worker) works)
+all_seated opening limit seats [] all = All-nil (HasSeat opening limit seats)
+all_seated opening limit seats (w ∷ ws) all =
+    let P : Worker × Worker → Type 0 = HasSpell opening limit seats in
+    All-cons (HasSeat opening limit seats) w.worker (map (λ v. v.worker) ws) (w.first, All-head P (spell w) (map spell ws) all) (all_seated opening limit seats ws (All-drop P 1 (map spell (w ∷ ws)) all))
+
+-- and its replica has followed what the seat was noted
+more_followed : (seats : List Sitting) (s : Sitting) (w : Worker × Content) → HasFollowed seats w → HasFollowed (seats ++ s ∷ []) w
+more_followed seats s w (seat, member, follows) = (seat, in_left seat seats (s ∷ []) member, follows)
+
+pub one_followed : (seats seats' : List Sitting) (leaving leaving' : List (Worker × Content)) (s : Sitting) (w : Worker × Content) → seats' ≡ seats ++ s ∷ [] → leaving' ≡ leaving ++ w ∷ [] → AllFollowed seats leaving → Follows w.1.log s.past → AllFollowed seats' leaving'
+one_followed seats seats' leaving leaving' s w seats_are leaving_are all follows =
+    let P : Worker × Content → Type 0 = HasFollowed (seats ++ s ∷ []) in
+    let new : P w = (s, in_right s seats (s ∷ []) (inl refl), follows) in
+    rw (seats_are, leaving_are) (All-push P leaving w (All-weaker (HasFollowed seats) P (λ (x : Worker × Content) h. more_followed seats s x h) leaving all) new)
 
 fits_in : (journal : List Entry) (seats : List Sitting) (s : Sitting) → AllFit journal seats → IsIn s seats → Fits journal s
 fits_in journal [] s fit h = absurd h
 fits_in journal (x ∷ xs) s fit (inl same) = subst (λ (y : Sitting). Fits journal y) same fit.0
 fits_in journal (x ∷ xs) s fit (inr later) = fits_in journal xs s fit.1 later
 
-left_begins : (opening : Flat resources) (limit : ℕ) (journal : List Entry) (seats : List Sitting) (w : Worker × Content) → AllFit journal seats → HasLeft opening limit seats w → IsPrefix w.1.log journal
-left_begins opening limit journal seats w fit (s, is, follows) = follows_begins journal w.1.log s.past follows (fits_in journal seats s fit is.member).notes
+left_begins : (journal : List Entry) (seats : List Sitting) (w : Worker × Content) → AllFit journal seats → HasFollowed seats w → IsPrefix w.1.log journal
+left_begins journal seats w fit (s, member, follows) = follows_begins journal w.1.log s.past follows (fits_in journal seats s fit member).notes
 
 -- what all have followed is a beginning of the journal that all seats fit
-pub all_begin : (opening : Flat resources) (limit : ℕ) (journal : List Entry) (seats : List Sitting) (leaving : List (Worker × Content)) → AllFit journal seats → AllLeft opening limit seats leaving → AllBegin journal leaving
-all_begin opening limit journal seats leaving fit all =
-    All-weaker (HasLeft opening limit seats) (λ (x : Worker × Content). IsPrefix x.1.log journal) (λ (x : Worker × Content) h. left_begins opening limit journal seats x fit h) leaving all
-
--- all who have left have seats
-pub all_have : (opening : Flat resources) (limit : ℕ) (seats : List Sitting) (leaving : List (Worker × Content)) (workers : List Worker) → map (λ w. w.0) leaving ≡ workers → AllLeft opening limit seats leaving → All (HasSeat opening limit seats) workers
-all_have opening limit seats leaving workers are all =
-    let P : Worker → Type 0 = HasSeat opening limit seats in
-    subst (λ (ws : List Worker). All P ws) are (All-map P (λ (w : Worker × Content). w.0) leaving (All-weaker (HasLeft opening limit seats) (λ (w : Worker × Content). P w.0) (λ (w : Worker × Content) h. (h.0, h.1)) leaving all))
+pub all_begin : (journal : List Entry) (seats : List Sitting) (leaving : List (Worker × Content)) → AllFit journal seats → AllFollowed seats leaving → AllBegin journal leaving
+all_begin journal seats leaving fit all =
+    All-weaker (HasFollowed seats) (λ (x : Worker × Content). IsPrefix x.1.log journal) (λ (x : Worker × Content) h. left_begins journal seats x fit h) leaving all
 
 -- seats that were opened were answered nothing
 all_fresh : (n k : ℕ) → All IsFresh (fresh n k)

@@ -2,5 +2,6 @@ mod Prelude
 mod Turning
 mod Following
 mod Commits
+mod Outcomes
 mod Leavers
 mod Turns

@@ -46,9 +46,8 @@ schedules_number opening limit first old last new None turns = turns_number turn
 schedules_number opening limit first old last new (Some ended) (before, offers) = offers_number offers
 
 -- all that a seat was answered which was answered nothing before
-pub works_from : (opening : Flat resources) (limit : ℕ) (first : Worker) (old : Sitting) (last : Worker) (new : Sitting) (ended : Option WorkerSide) → old.past ≡ [] → Schedules opening limit first old last new ended → Works opening limit last new ended
+pub works_from : (opening : Flat resources) (limit : ℕ) (first : Worker) (old : Sitting) (last : Worker) (new : Sitting) (ended : Option WorkerSide) → old.past ≡ [] → Schedules opening limit first old last new ended → Works opening limit first last new ended
 works_from opening limit first old last new ended fresh schedules = record {
-  first = first;
   seat = old.seat;
   schedules = subst (λ (past : List Moment). Schedules opening limit first (sitting old.seat past) last new ended) fresh schedules;
 }

@@ -1,5 +1,5 @@
 -- What is committed of what was put into the lanes.
-use Rattle.std.specs.Prelude.{◌≡◌, ℕ, List, [], ◌∷◌, ◌++◌, Result, MatchResult}
+use Rattle.std.specs.Prelude.{◌≡◌, ℕ, List, [], ◌∷◌, ◌++◌, Option, Some, None, Result, MatchResult}
 use Rattle.cap_base.specs.Limits.{resources}
 use Rattle.cap_lanes.specs.Sides.{CommitterSide}
 use Rattle.cap_model.specs.Admission.{NodeProposal}
@@ -7,7 +7,7 @@ use Rattle.cap_model.specs.declared.proposal.Verdict.{Verdict}
 use Rattle.cap_shared.specs.Calls.{CommitAnswers, CommitsBack}
 use Rattle.cap_shared.specs.declared.faults.CommitFault.{CommitFault}
 use Rattle.cap_shared.specs.declared.history.Sitting.{Sitting}
-use Rattle.cap_workers.specs.Worker.{IsCommitted, outcome_by}
+use Rattle.cap_workers.specs.Worker.{IsCommitted, outcome_at, outcome_by}
 use Rattle.cap_workers.specs.declared.gate.CommitOutcome.{CommitOutcome}
 use Rattle.cap_workers.specs.declared.worker.TurnEnd.{TurnEnd}
 
@@ -16,15 +16,26 @@ abbrev pub CommitsNext : ℕ → Sitting → Sitting → CommitterSide → Commi
 CommitsNext limit old new before after told =
     (p : NodeProposal) × (answer : Result (Verdict resources) CommitFault) × (after.taken ≡ before.taken ++ (told.0, p) ∷ []) × MatchResult answer (CommitAnswers p old new) (CommitsBack p limit old new) × (told.1 ≡ outcome_by answer)
 
--- these proposals, each with the number of its worker, were committed one after the other, each once
-pub data Commits (limit : ℕ) (old : Sitting) : List (ℕ × NodeProposal) → Sitting → Type 0 where
-  commits_none : Commits limit old [] old
-  commits_one : {taken : List (ℕ × NodeProposal)} {mid new : Sitting} → Commits limit old taken mid → (worker : ℕ) (p : NodeProposal) (end : TurnEnd) → IsCommitted p limit mid new end → Commits limit old (taken ++ (worker, p) ∷ []) new
+-- these proposals, each with the number of its worker, were committed one after the other, each once, and this came of them, for the same workers
+pub data Commits (limit : ℕ) (old : Sitting) : List (ℕ × NodeProposal) → List (ℕ × CommitOutcome) → Sitting → Type 0 where
+  commits_none : Commits limit old [] [] old
+  commits_one : {taken : List (ℕ × NodeProposal)} {told : List (ℕ × CommitOutcome)} {mid new : Sitting} → Commits limit old taken told mid → (worker : ℕ) (p : NodeProposal) (end : TurnEnd) → IsCommitted p limit mid new end
+      → Commits limit old (taken ++ (worker, p) ∷ []) (told ++ (worker, outcome_at end) ∷ []) new
+
+-- some proposals were committed, each once, of which this came
+abbrev pub CommitsTold : ℕ → Sitting → Sitting → List (ℕ × CommitOutcome) → Type 0
+CommitsTold limit old new told = (taken : List (ℕ × NodeProposal)) × Commits limit old taken told new
 
 -- some proposals were committed, each once
 abbrev pub CommitsSome : ℕ → Sitting → Sitting → Type 0
-CommitsSome limit old new = (taken : List (ℕ × NodeProposal)) × Commits limit old taken new
+CommitsSome limit old new = (told : List (ℕ × CommitOutcome)) × CommitsTold limit old new told
 
--- what was taken out of the lanes was committed, in the order in which it was taken
-abbrev pub CommitsTaken : ℕ → Sitting → Sitting → CommitterSide → CommitterSide → Type 0
-CommitsTaken limit old new before after = (taken : List (ℕ × NodeProposal)) × (after.taken ≡ before.taken ++ taken) × Commits limit old taken new
+-- what was taken out of the lanes was committed, in the order in which it was taken, and this came of it
+abbrev pub CommitsTaken : ℕ → Sitting → Sitting → CommitterSide → CommitterSide → List (ℕ × CommitOutcome) → Type 0
+CommitsTaken limit old new before after told = (taken : List (ℕ × NodeProposal)) × (after.taken ≡ before.taken ++ taken) × Commits limit old taken told new
+
+-- what places hold, in order
+abbrev pub held_in : List (Option (ℕ × CommitOutcome)) → List (ℕ × CommitOutcome)
+held_in [] = []
+held_in (None ∷ places) = held_in places
+held_in (Some told ∷ places) = told ∷ held_in places

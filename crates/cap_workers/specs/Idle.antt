@@ -23,21 +23,27 @@ AllAre cluster workers = All (λ w. w.cluster.flat ≡ cluster) workers
 abbrev pub IsFresh : Sitting → Type 0
 IsFresh s = s.past ≡ []
 
--- this is one of the seats, and it was answered what this worker did, and nothing else
-pub record IsSeatOf (opening : Flat resources) (limit : ℕ) (seats : List Sitting) (worker : Worker) (seat : Sitting) : Type 0 where
+-- One of the seats was answered what this worker did, and nothing else: the worker as it began, and as it has left.
+pub record HasSpell (opening : Flat resources) (limit : ℕ) (seats : List Sitting) (worker : Worker × Worker) : Type 0 where
+  pub seat : Sitting
   pub member : IsIn seat seats
   pub ended : Option WorkerSide
-  pub works : Works opening limit worker seat ended
+  pub works : Works opening limit worker.0 worker.1 seat ended
 
+-- the same of a worker that has left, however it began
 abbrev pub HasSeat : Flat resources → ℕ → List Sitting → Worker → Type 0
-HasSeat opening limit seats worker = (seat : Sitting) × IsSeatOf opening limit seats worker seat
+HasSeat opening limit seats worker = (first : Worker) × HasSpell opening limit seats (first, worker)
 
--- and what the worker's replica has followed is a beginning of what a note of this seat had, or there are none
-abbrev pub HasLeft : Flat resources → ℕ → List Sitting → Worker × Content → Type 0
-HasLeft opening limit seats w = (seat : Sitting) × IsSeatOf opening limit seats w.0 seat × Follows w.1.log seat.past
+-- seats that fit this journal were answered what these workers did, each as it began and as it has left
+abbrev pub HaveSpells : Flat resources → ℕ → List (Worker × Worker) → List Entry → Type 0
+HaveSpells opening limit workers journal = (seats : List Sitting) × AllFit journal seats × All (HasSpell opening limit seats) workers
 
-abbrev pub AllLeft : Flat resources → ℕ → List Sitting → List (Worker × Content) → Type 0
-AllLeft opening limit seats workers = All (HasLeft opening limit seats) workers
+-- what the worker's replica has followed is a beginning of what a note of one of the seats had, or there are none
+abbrev pub HasFollowed : List Sitting → Worker × Content → Type 0
+HasFollowed seats w = (seat : Sitting) × IsIn seat seats × Follows w.1.log seat.past
+
+abbrev pub AllFollowed : List Sitting → List (Worker × Content) → Type 0
+AllFollowed seats workers = All (HasFollowed seats) workers
 
 -- what each of these workers has followed is a beginning of the journal
 abbrev pub AllBegin : List Entry → List (Worker × Content) → Type 0

@@ -32,14 +32,18 @@ abbrev pub Schedules : Flat resources → ℕ → Worker → Sitting → Worker 
 Schedules opening limit first old last new None = Turns opening limit first old last new
 Schedules opening limit first old last new (Some ended) = (before : WorkerSide) × Offers opening limit first old before last new ended
 
--- all that a worker's seat was answered in an epoch is what it did
-pub record Works (opening : Flat resources) (limit : ℕ) (last : Worker) (new : Sitting) (ended : Option WorkerSide) : Type 0 where
-  pub first : Worker
+-- all that a worker's seat was answered in an epoch is what it did, which was this worker as the epoch began
+pub record Works (opening : Flat resources) (limit : ℕ) (first last : Worker) (new : Sitting) (ended : Option WorkerSide) : Type 0 where
   pub seat : ℕ
   pub schedules : Schedules opening limit first (sitting seat []) last new ended
 
--- what is seen of a worker that has left an epoch
+-- what is seen of a worker that has left an epoch: what it was as the epoch began, and what it is now
 pub record Work : Type 0 where
+  pub first : Worker
   pub worker : Worker
   pub seat : Sitting
   pub ended : Option WorkerSide
+
+-- the worker as it began, and as it has left
+abbrev pub spell : Work → Worker × Worker
+spell w = (w.first, w.worker)

@@ -53,6 +53,14 @@ outcome_by (Ok (verdict.Done event)) = outcomes.Made
 outcome_by (Ok (verdict.Rejected reason)) = outcomes.Rejected
 outcome_by (Err missed) = outcomes.Unmade
 
+-- what came of a commit after which a turn ends so
+abbrev pub outcome_at : TurnEnd → CommitOutcome
+outcome_at ends.Nothing = outcomes.Unmade
+outcome_at (ends.Done event) = outcomes.Made
+outcome_at (ends.Rejected reason) = outcomes.Rejected
+outcome_at (ends.Sealed back) = outcomes.Unmade
+outcome_at ends.NoMemory = outcomes.Unmade
+
 -- the proposal was committed once, and the end is what that was answered
 abbrev pub IsCommitted : NodeProposal → ℕ → Sitting → Sitting → TurnEnd → Type 0
 IsCommitted p limit old new ends.Nothing = ⊥

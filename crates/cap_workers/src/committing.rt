@@ -1,6 +1,6 @@
 //! What workers put into their lanes is committed by whoever holds the cluster: the committer, or a worker (`commit_all`, `commit_lanes`).
-ghost use Rattle.std.specs.Prelude.{◌≡◌, MatchOption};
-ghost use Rattle.cap_workers.specs.Committing.{CommitsNext, CommitsSome, CommitsTaken};
+ghost use Rattle.std.specs.Prelude.{◌≡◌, IfSome, MatchOption};
+ghost use Rattle.cap_workers.specs.Committing.{CommitsNext, CommitsSome, CommitsTaken, CommitsTold, held_in};
 
 use crate::coordinator::{BATCH, Coordinator, Outcomes};
 use crate::gate::{CommitOutcome, Gate};
@@ -61,7 +61,9 @@ pub(crate) fn commit_lanes<J: Naming, R: Wait>(
     seat: &mut Seat<J>,
     coordinator: &Coordinator,
 ) -> Option<Committed>
-    ensures { CommitsSome J.limit seat.old seat.new }
+    ensures some { CommitsSome J.limit seat.old seat.new }
+    ensures told { IfSome result
+        (λ committed. CommitsTold J.limit seat.old seat.new (held_in committed.outcomes)) }
 {
     let mut held = shared.hold_to_schedule(rt);
     let mut lanes = coordinator.lanes(rt);
@@ -73,14 +75,15 @@ pub(crate) fn commit_lanes<J: Naming, R: Wait>(
     })
 }
 
-/// Commits the proposals that wait in the lanes. Each worker has one there at most, and its end.
+/// Commits the proposals that wait in the lanes. Each worker has one there at most, and its end. What came of them, in their order.
 fn commit_waiting<J: Naming, R: Wait>(
     rt: &R,
     held: &mut Hold<'_, J>,
     seat: &mut Seat<J>,
     committer: &mut Committer,
 ) -> Outcomes
-    ensures { CommitsTaken J.limit seat.old seat.new committer.old committer.new }
+    ensures { CommitsTaken J.limit seat.old seat.new committer.old committer.new
+        (held_in result) }
 {
     let mut outcomes = [None; BATCH];
     let mut count = 0;

@@ -1,8 +1,9 @@
 //! A worker between two epochs (`IdleWorker`), and how workers take their clusters from one to the next (`close_epoch`).
-ghost use Rattle.std.specs.Prelude.{◌≡◌, ◌≤◌, ◌+◌, [], length, map, IfOk};
+ghost use Rattle.std.specs.Prelude.{◌≡◌, ◌≤◌, ◌+◌, [], length, map, All, IfOk};
 ghost use Rattle.cap_shared.specs.Journal.{Replays};
 ghost use Rattle.cap_shared.specs.WordRule.{fresh};
-ghost use Rattle.cap_workers.specs.Idle.{AllAre, AllBegin, AllLeft, ClosesEpoch};
+ghost use Rattle.cap_workers.specs.Idle.{AllAre, AllBegin, AllFollowed, ClosesEpoch, HasSpell, HaveSpells};
+ghost use Rattle.cap_workers.specs.Scheduling.{spell};
 
 use crate::follower::Follower;
 use crate::scheduler::{Scheduled, Scheduler};
@@ -33,8 +34,9 @@ impl IdleWorker {
     }
 }
 
-/// ClosesEpoch an epoch: all its seats come back, some with workers. What each of them was answered is what it did. Each worker makes what its cluster
-/// lacks of the journal again, so it can begin in the next epoch. If an allocation fails the workers and the cluster are given up.
+/// Closes an epoch: all its seats come back, some with workers. What each of them was answered is what it did, from the node on at which it began.
+/// Each worker makes what its cluster lacks of the journal again, so it can begin in the next epoch. If an allocation fails the workers and the
+/// cluster are given up.
 pub fn close_epoch<J: Naming>(
     alloc: Global,
     shared: Shared<J>,
@@ -44,6 +46,8 @@ pub fn close_epoch<J: Naming>(
     requires { length seats.items + length scheduled.items ≡ J.seats }
     ensures closes { IfOk result (λ left. ClosesEpoch J.opening J.limit J.seats
         (map (λ w. w.worker) scheduled.items) left.0.journal.items left.0.cluster.flat) }
+    ensures began { IfOk result (λ left. HaveSpells J.opening J.limit
+        (map spell scheduled.items) left.0.journal.items) }
     ensures workers { IfOk result (λ left. AllAre left.0.cluster.flat left.1.items) }
     ensures back { IfOk result (λ left.
         map (λ w. w.worker) left.1.items ≡ map (λ w. w.worker) scheduled.items) }
@@ -64,8 +68,9 @@ fn leave_all<J: Naming>(
 ) -> Result<Vec<(Worker, Replica<J>)>, NoMemory>
     ensures seats { IfOk result (λ _.
         length seats.new.items ≡ length seats.old.items + length scheduled.items) }
-    ensures left { IfOk result (λ leaving.
-        AllLeft J.opening J.limit seats.new.items leaving.items) }
+    ensures work { IfOk result (λ _.
+        All (HasSpell J.opening J.limit seats.new.items) (map spell scheduled.items)) }
+    ensures followed { IfOk result (λ leaving. AllFollowed seats.new.items leaving.items) }
     ensures back { IfOk result (λ leaving.
         map (λ w. w.0) leaving.items ≡ map (λ w. w.worker) scheduled.items) }
 {

@@ -81,8 +81,10 @@ pub struct Scheduler<J: Naming> {
 }
 
 /// A worker that has left an epoch. Its seat was answered what it did: turns one after the other, or offers and commits, and nothing else.
-/// Contracts see the worker, what its seat was answered, and the end of its lane, if it had one.
+/// Contracts see what the worker was when the epoch began and what it is now, what its seat was answered, and the end of its lane, if it had one.
 pub struct Scheduled<J: Naming> {
+    /// The worker as the epoch began.
+    first: Worker,
     worker: Worker,
     follower: Follower<J>,
     ended: Option<Ended>,
@@ -91,6 +93,7 @@ pub struct Scheduled<J: Naming> {
 impl<J: Naming> Drop for Scheduled<J> {
     fn drop(self) {
         let Scheduled {
+            first: _,
             worker: _,
             follower: _,
             ended: _,
@@ -103,9 +106,14 @@ impl<J: Naming> Model for Scheduled<J> {
 
     ghost Value = { Work };
 
-    ghost view = { λ s. record { worker = s.worker; seat = s.follower; ended = s.ended } };
+    ghost view = { λ s. record {
+      first = s.first;
+      worker = s.worker;
+      seat = s.follower;
+      ended = s.ended;
+    } };
 
-    ghost invariant = { λ s. Works J.opening J.limit s.worker s.follower s.ended };
+    ghost invariant = { λ s. Works J.opening J.limit s.first s.worker s.follower s.ended };
 }
 
 impl<J: Naming> Scheduler<J> {
@@ -143,13 +151,16 @@ impl<J: Naming> Scheduler<J> {
         direction: &Direction<'_, S, G>,
         putter: Option<Putter>,
     ) -> Scheduled<J>
-        ensures { result.worker.number ≡ self.worker.number }
+        ensures first { result.first ≡ self.worker }
+        ensures number { result.worker.number ≡ self.worker.number }
     {
         let Scheduler { worker, follower } = self;
+        let first = worker;
         let mut turns = Turning { worker, follower };
         let ended = turns.take(rt, shared, direction, putter);
         let Turning { worker, follower } = turns;
         Scheduled {
+            first,
             worker,
             follower,
             ended,
@@ -158,13 +169,21 @@ impl<J: Naming> Scheduler<J> {
 }
 
 impl<J: Naming> Scheduled<J> {
+    /// The worker as the epoch began.
+    pub fn first(&self) -> Worker
+        ensures { result ≡ self.now.first }
+    {
+        self.first
+    }
+
     /// The worker, and its seat with its cluster.
     pub(crate) fn into_parts(self) -> (Worker, Follower<J>)
         ensures worker { result.0 ≡ self.worker }
         ensures seat { result.1 ≡ self.seat }
-        ensures works { Works J.opening J.limit self.worker self.seat self.ended }
+        ensures works { Works J.opening J.limit self.first self.worker self.seat self.ended }
     {
         let Scheduled {
+            first: _,
             worker,
             follower,
             ended: _,

@@ -1,8 +1,34 @@
-use Rattle.cap_workers.proofs.Commits.{none_taken, maybe_taken}
+use Rattle.cap_workers.proofs.Prelude.{ℕ, ◌<◌, List, Some, length, refl, sym, subst, arith, ◌∙◌}
+use Rattle.cap_workers.specs.Committing.{CommitsTaken, held_in}
+use Rattle.cap_workers.specs.declared.gate.CommitOutcome.{CommitOutcome}
+use Rattle.cap_workers.proofs.Commits.{none_taken, next_taken, still_taken}
+use Rattle.cap_workers.proofs.Outcomes.{as_many_places, fewer_empty, one_more_held}
+use Rattle.cap_workers.proofs.committing.commit_waiting.Goals.{in-Some, in_default}
 use Rattle.cap_workers.proofs.committing.commit_waiting.Goals as goal
 
 pub loop-init : goal.loop-init
-loop-init g c = none_taken g.J.Naming.limit c.args.seat.now c.args.committer.now
+loop-init g c = record {
+  taken = none_taken g.J.Naming.limit c.args.seat.now c.args.committer.now;
+  empty = (refl, (refl, (refl, (refl, (refl, (refl, (refl, (refl, tt))))))));
+  eight = refl;
+}
 
 pub loop-preserved : goal.loop-preserved
-loop-preserved g c = maybe_taken g.J.Naming.limit c.args.seat.now c.loop.seat c.commit_next.new.seat c.args.committer.now c.loop.committer c.commit_next.new.committer c.commit_next.result c.loop.invariant c.commit_next.ensures
+loop-preserved g c =
+    let i = c.loop.invariant in
+    elim c.match-commit_next.branch [
+      | in-Some w ↦ (
+          let one = w.in-Some.outcome in
+          let less : c.loop.count < length c.loop.outcomes = omega (arith, c.if-count-ge-BATCH.false, i.eight) in
+          let taken = next_taken g.J.Naming.limit c.args.seat.now c.loop.seat c.commit_next.new.seat c.args.committer.now c.loop.committer c.commit_next.new.committer (held_in c.loop.outcomes) one i.taken w.in-Some.ensures in
+          rw w.outcomes-is (record {
+            taken = subst (λ (told : List (ℕ × CommitOutcome)). CommitsTaken g.J.Naming.limit c.args.seat.now c.commit_next.new.seat c.args.committer.now c.commit_next.new.committer told) (sym (one_more_held c.loop.count c.loop.outcomes one less i.empty)) taken;
+            empty = fewer_empty c.loop.count c.match-commit_next.count c.loop.outcomes one w.count-is i.empty;
+            eight = as_many_places c.loop.count c.loop.outcomes (Some one) ∙ i.eight;
+          }))
+      | in_default w ↦ rw (w.outcomes-is, w.count-is) (record {
+        taken = still_taken g.J.Naming.limit c.args.seat.now c.loop.seat c.commit_next.new.seat c.args.committer.now c.loop.committer c.commit_next.new.committer (held_in c.loop.outcomes) i.taken w.in_default.ensures;
+        empty = i.empty;
+        eight = i.eight;
+      })
+    ]
