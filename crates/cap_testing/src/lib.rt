@@ -1,11 +1,12 @@
 //! What tests of several crates need: settings and the cluster that they open, whether two clusters show the same, changes of a tree,
-//! requests as frames, an epoch, and a count that threads wait for.
+//! requests as frames, also of clients that do anything, an epoch, and a count that threads wait for.
 //! The spelling of frames is written by hand and shares no code with the engine.
 #![tactic(auto)]
 
 mod alike;
 mod epochs;
 mod mark;
+mod random;
 mod settings;
 mod spelling;
 mod table;
@@ -14,6 +15,7 @@ mod tree;
 pub use alike::{are_alike, is_same, report_alike};
 pub use epochs::{Work, epoch};
 pub use mark::Mark;
+pub use random::RandomClient;
 pub use settings::{NESTED_QUEUES, SMALL_QUEUES, TWO_QUEUES, cluster, cluster_after, make_call};
 pub use spelling::{Call, WantedContainers, frame};
 pub use table::first;

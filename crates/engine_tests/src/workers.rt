@@ -1,6 +1,7 @@
 //! Workers, and sessions that are served from a shared cluster, over readers and writers in memory.
 mod epochs;
 mod offering;
+mod refreshing;
 mod serving;
 mod sessions;
 mod starved;

@@ -2,4 +2,8 @@
 #![tactic(auto)]
 
 #[cfg(test)]
+mod passed_over;
+#[cfg(test)]
 mod proposals;
+#[cfg(test)]
+mod random;

@@ -164,7 +164,7 @@ fn parts(proposal: Option<Proposal<RESOURCES>>) -> Option<Parts> {
 
 /// Whether the proposals on the cluster and on its snapshot are the same from the first five starting nodes. `None` if an allocation
 /// fails.
-fn propose_alike(alloc: Global, cluster: &Cluster<RESOURCES>) -> Option<bool> {
+pub(crate) fn propose_alike(alloc: Global, cluster: &Cluster<RESOURCES>) -> Option<bool> {
     let snapshot = Snapshot::take(alloc, cluster.tree(), cluster.apps(), cluster.nodes()).ok()?;
     for start in 0..5 {
         if parts(propose_live(cluster, start)) != parts(propose(&snapshot, start)) {

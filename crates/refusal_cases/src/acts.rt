@@ -74,11 +74,12 @@ fn entered<J: Naming>(shared: &Shared<J>, seat: &Seat<J>) -> Option<u64> {
     }
 }
 
-/// What a call came to that gives application 1 or the second reply to an Allocate.
+/// What a call came to that gives application 1 or the second reply to an Allocate, or is a Refresh.
 fn end_of_call(reply: &OwnedReply<RESOURCES>) -> ActEnd {
     let is_made = match reply {
         ReplyWith::Submit { app } => *app == 1,
         ReplyWith::Allocate { reply } => reply.response == 2,
+        ReplyWith::Refresh => true,
         _ => false,
     };
     if is_made { ActEnd::Made } else { ActEnd::Other }

@@ -6,7 +6,7 @@ use crate::cases::Case;
 use crate::epochs::{Epoch, Task, in_epoch};
 use crate::fixture::cluster_after;
 use crate::shortage::Shortage;
-use crate::table::{Before, ONE};
+use crate::table::{Before, ONE, OTHER_LIMITS};
 use cap_base::RESOURCES;
 use cap_commit::Cluster;
 use cap_testing::{Call, WantedContainers};
@@ -65,11 +65,15 @@ const EIGHT_MORE: &[WantedContainers<'static>] = &[
     WantedContainers { request: 8, ..ONE },
 ];
 
-/// A Submit, a second Allocate of eight more asks, a grant, a turn, an offer, the opening of an epoch, and lanes.
-pub static TASKS: [Case; 7] = [
+/// A Submit, a Refresh, a second Allocate of eight more asks, a grant, a turn, an offer, the opening of an epoch, and lanes.
+pub static TASKS: [Case; 8] = [
     Case::Task(
         Before::Nothing,
         Task::Act(Act::Call(Call::Submit(b"root.a", b"u1"))),
+    ),
+    Case::Task(
+        Before::Nothing,
+        Task::Act(Act::Call(Call::Refresh(OTHER_LIMITS))),
     ),
     Case::Task(
         Before::Asking,

@@ -1,5 +1,5 @@
-//! An epoch of two seats: a worker has one, and the test makes calls with the other.
-ghost use Rattle.std.specs.Prelude.{◌≡◌, ◌≤◌};
+//! An epoch in which a worker has a seat, and calls are made with the others.
+ghost use Rattle.std.specs.Prelude.{◌≡◌, ◌≤◌, ◌+◌, IfSome};
 
 use cap_base::RESOURCES;
 use cap_commit::Cluster;
@@ -14,8 +14,8 @@ use std::marker::Brand;
 use std::sync::Wait;
 use std::time::Clock;
 
-/// How many entries the journal has at most.
-pub const LIMIT: usize = 20;
+/// How many entries the journal has at most where a test plays.
+const LIMIT: usize = 20;
 
 /// Three containers of (1024, 1), anywhere.
 const THREE: WantedContainers = WantedContainers {
@@ -82,8 +82,28 @@ pub fn call_all<J: Naming, H: Wait>(
     Some(())
 }
 
-/// Plays in an epoch over a cluster of two queues.
-pub fn play_in<H: Wait + Clock, P: Play>(rt: &H, alloc: Global, play: &P) -> Option<P::Seen> {
+/// What an epoch is opened with: a cluster of two queues, and a worker with one that is the same.
+#[derive(Drop)]
+pub struct Opening {
+    pub blank: Blank,
+    pub cluster: Cluster<RESOURCES>,
+    pub worker: IdleWorker,
+}
+
+/// An epoch that has begun.
+#[derive(Drop)]
+pub struct Begun<J: Naming> {
+    pub shared: Shared<J>,
+    pub seats: Vec<Seat<J>>,
+    pub own: Scheduler<J>,
+}
+
+/// What an epoch of so many callers is opened with. `None` if an allocation fails.
+pub fn open_for(alloc: Global, callers: u32) -> Option<Opening>
+    requires { callers ≤ 255 }
+    ensures seats { IfSome result (λ o. o.blank.1 ≡ callers + 1) }
+    ensures same { IfSome result (λ o. o.worker.cluster.flat ≡ o.cluster.flat) }
+{
     let config = read_config(alloc, TWO_QUEUES).ok()?;
     let Ok(cluster) = Cluster::from_config(alloc, &config) else {
         return None;
@@ -91,33 +111,36 @@ pub fn play_in<H: Wait + Clock, P: Play>(rt: &H, alloc: Global, play: &P) -> Opt
     let Ok(same) = Cluster::from_config(alloc, &config) else {
         return None;
     };
-    let Ok(blank) = Blank::new(alloc, 2) else {
+    let Ok(blank) = Blank::new(alloc, callers + 1) else {
         return None;
     };
     let worker = IdleWorker {
         worker: Worker::new(0),
         cluster: same,
     };
-    named_epoch::<Brand, H, P>(rt, alloc, blank, cluster, worker, play)
+    Some(Opening {
+        blank,
+        cluster,
+        worker,
+    })
 }
 
-/// The same under a name.
-fn named_epoch<J: Naming, H: Wait + Clock, P: Play>(
-    rt: &H,
-    alloc: Global,
-    blank: Blank,
-    cluster: Cluster<RESOURCES>,
-    worker: IdleWorker,
-    play: &P,
-) -> Option<P::Seen>
-    requires named { blank.0 ≡ J.table }
-    requires opening { cluster.flat ≡ J.opening }
-    requires same { worker.cluster.flat ≡ J.opening }
-    requires limit { 20 ≡ J.limit }
-    requires seats { blank.1 ≡ J.seats }
-    requires few { 2 ≡ J.seats }
+/// Begins an epoch with a journal of so many entries at most. `None` if an allocation fails.
+pub fn begin<J: Naming>(alloc: Global, opening: Opening, limit: usize) -> Option<Begun<J>>
+    requires named { opening.blank.0 ≡ J.table }
+    requires opening { opening.cluster.flat ≡ J.opening }
+    requires same { opening.worker.cluster.flat ≡ J.opening }
+    requires limit { limit ≡ J.limit }
+    requires seats { opening.blank.1 ≡ J.seats }
+    requires some { (1 ≤ J.limit) × (J.limit ≤ 1000000) }
+    requires few { (1 ≤ J.seats) × (J.seats ≤ 256) }
 {
-    let Ok((shared, mut seats)) = Shared::<J>::open(alloc, blank, cluster, LIMIT) else {
+    let Opening {
+        blank,
+        cluster,
+        worker,
+    } = opening;
+    let Ok((shared, mut seats)) = Shared::<J>::open(alloc, blank, cluster, limit) else {
         return None;
     };
     let Ok(workers) = Vec::from_array(alloc, [worker]) else {
@@ -127,6 +150,34 @@ fn named_epoch<J: Naming, H: Wait + Clock, P: Play>(
         return None;
     };
     let own = begun.pop()?;
+    Some(Begun { shared, seats, own })
+}
+
+/// Plays in an epoch with one caller.
+pub fn play_in<H: Wait + Clock, P: Play>(rt: &H, alloc: Global, play: &P) -> Option<P::Seen> {
+    let opening = open_for(alloc, 1)?;
+    play_under_name::<Brand, H, P>(rt, alloc, opening, play)
+}
+
+/// The same under a name.
+fn play_under_name<J: Naming, H: Wait + Clock, P: Play>(
+    rt: &H,
+    alloc: Global,
+    opening: Opening,
+    play: &P,
+) -> Option<P::Seen>
+    requires named { opening.blank.0 ≡ J.table }
+    requires opening { opening.cluster.flat ≡ J.opening }
+    requires same { opening.worker.cluster.flat ≡ J.opening }
+    requires limit { 20 ≡ J.limit }
+    requires seats { opening.blank.1 ≡ J.seats }
+    requires few { 2 ≡ J.seats }
+{
+    let Begun {
+        shared,
+        mut seats,
+        own,
+    } = begin::<J>(alloc, opening, LIMIT)?;
     let mut caller = seats.pop()?;
     play.play(rt, alloc, &shared, &mut caller, own)
 }

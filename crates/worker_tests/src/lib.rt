@@ -2,8 +2,12 @@
 #![tactic(auto)]
 
 #[cfg(test)]
+mod calling;
+#[cfg(test)]
 mod epochs;
 #[cfg(test)]
 mod following;
+#[cfg(test)]
+mod in_step;
 #[cfg(test)]
 mod resting;

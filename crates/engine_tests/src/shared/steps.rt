@@ -19,6 +19,8 @@ pub enum Step<'a> {
     /// An application asks for two containers, in its first allocate.
     Allocate(u64),
     RegisterNode(&'a [u8]),
+    /// The property lines become the settings.
+    Refresh(&'a [u8]),
     /// What is proposed on a copy, from a starting node.
     Commit(u32),
 }
@@ -169,6 +171,7 @@ fn is_of(request: &Request<RESOURCES>, step: Step<'_>) -> bool {
         (Request::RegisterNode { host, .. }, Step::RegisterNode(wanted)) => {
             host.as_bytes() == wanted
         }
+        (Request::Refresh { text }, Step::Refresh(wanted)) => text.as_slice() == wanted,
         _ => false,
     }
 }
@@ -233,8 +236,19 @@ fn request_of(alloc: Global, step: Step<'_>) -> Option<Request<RESOURCES>> {
             rack: ShortText::new(b"rack")?,
             total: Resource::new([16_384, 16, 0])?,
         },
+        Step::Refresh(text) => refresh(alloc, text)?,
         Step::Commit(_) => return None,
     })
+}
+
+/// A Refresh of these property lines, 65,526 bytes at most.
+pub fn refresh(alloc: Global, text: &[u8]) -> Option<Request<RESOURCES>> {
+    if text.len() > 65_526 {
+        return None;
+    }
+    let lines = Vec::from_slice(alloc, text).ok()?;
+    let text = List::of(alloc, lines).ok()?;
+    Some(Request::Refresh { text })
 }
 
 /// One ask for two containers of (512, 1), anywhere.

@@ -85,24 +85,45 @@ type OneSeat = (
 
 /// What a seat is answered in an epoch of two entries: its receipts, how many entries there are, how many calls came back, and what is
 /// left of the cluster.
-fn of_one_seat<H: Threads + Wait + Sync>(rt: &H, alloc: Global) -> Option<OneSeat> {
-    let steps = [
-        Step::ClusterInfo,
-        Step::Submit(b"root.missing"),
-        Step::ClusterInfo,
-    ];
+fn of_one_seat<H: Threads + Wait + Sync>(
+    rt: &H,
+    alloc: Global,
+    steps: &[Step<'_>],
+) -> Option<OneSeat> {
     let opening = cluster(alloc, TWO_QUEUES)?;
-    let work = Work::Steps(&steps);
+    let work = Work::Steps(steps);
     let (mut closed, sealed, _failed) = one_epoch(rt, alloc, opening, (1, 2), work, None)?;
     let left = sizes(alloc, &mut closed.cluster);
     Some((two_rows(&closed.seats), closed.journal.len(), sealed, left))
 }
 
+/// In another order, and with another line, which has no `=`.
+const NO_LINE: &[u8] = b"yarn.scheduler.capacity.root.queues=b,a
+x";
+
+/// A third call comes back; so does a Refresh, whether its lines could be read or not. Those that are refused are entered.
 #[test]
 fn a_full_journal_seals_the_third_call(rt: HostRuntime) {
-    let answer = of_one_seat(&rt, rt.alloc());
-    let rows = Some([(0, 0, 0), (1, 1, 0)]);
-    assert!(rt; answer == Some((rows, 2, 1, Some((0, 0, 0)))));
+    let lines = Step::Refresh(TWO_QUEUES);
+    let no_lines = Step::Refresh(NO_LINE);
+    let missing = Step::Submit(b"root.missing");
+    for &(steps, statuses) in &[
+        ([Step::ClusterInfo, missing, Step::ClusterInfo], [0, 1]),
+        ([lines, no_lines, lines], [0, 17]),
+        (
+            [
+                Step::Refresh(b"yarn.scheduler.capacity.root.queues=a"),
+                lines,
+                no_lines,
+            ],
+            [18, 0],
+        ),
+    ] {
+        let [first, second] = statuses;
+        let rows = Some([(0, first, 0), (1, second, 0)]);
+        let answer = of_one_seat(&rt, rt.alloc(), &steps);
+        assert!(rt; answer == Some((rows, 2, 1, Some((0, 0, 0)))));
+    }
 }
 
 /// Whether a seat's two receipts are of calls that were not refused, and the second shows one application or two.

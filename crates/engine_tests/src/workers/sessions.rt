@@ -33,17 +33,17 @@ const BAD_LENGTH: &[u8] = &[0, 0, 0, 7, 1, 0, 0, 0, 0, 0, 40];
 /// What came of a session: how it ended, how many bytes went out, how many are still to be written, how many entries the journal has, and how
 /// many reads and writes failed.
 #[derive(Clone, Copy, PartialEq, Eq)]
-struct Outcome {
-    endings: Endings,
-    sent: u64,
-    unsent: usize,
-    entries: usize,
-    failures: u64,
+pub struct Outcome {
+    pub endings: Endings,
+    pub sent: u64,
+    pub unsent: usize,
+    pub entries: usize,
+    pub failures: u64,
 }
 
 /// A session that ended like this after its reader was quiet so often, so that so many bytes went out and no more are to be written, with so
 /// many entries in the journal.
-fn ended(quiets: u64, ending: Ending, sent: u64, entries: usize) -> Outcome {
+pub fn ended(quiets: u64, ending: Ending, sent: u64, entries: usize) -> Outcome {
     let first = if quiets == 0 { ending } else { Ending::Quiet };
     Outcome {
         endings: Endings {
@@ -60,7 +60,7 @@ fn ended(quiets: u64, ending: Ending, sent: u64, entries: usize) -> Outcome {
 }
 
 /// Gives nothing.
-const PLAIN: Source<'_> = Source {
+pub const PLAIN: Source<'_> = Source {
     first: &[],
     second: None,
     step: 4096,
@@ -92,7 +92,7 @@ fn serve_once<H: Wait>(
 
 /// Serves a session in two epochs of at most so many entries each, or in one if the second is to have none: what came of it until the end
 /// of each.
-fn served<H: Wait>(
+pub fn served<H: Wait>(
     rt: &H,
     alloc: Global,
     limits: (usize, usize),
@@ -111,7 +111,7 @@ fn served<H: Wait>(
 
 /// Whether this comes of a session in an epoch of at most 100 entries whose writer takes so many bytes a write and fails after a limit, and
 /// these bytes go out.
-fn is_served<H: Wait>(
+pub fn is_served<H: Wait>(
     rt: &H,
     alloc: Global,
     source: Source<'_>,
