@@ -1,6 +1,7 @@
 //! Turns of one worker that follows the journal, in a cluster of which it alone grants (`print`).
 
 mod epoch;
+mod filling;
 mod work;
 
 use crate::following::epoch::run;
@@ -12,7 +13,7 @@ use std::sync::Wait;
 /// Prints how many containers the turns of a line granted.
 pub fn print<H: Print + Wait>(rt: &H, alloc: Global, line: &str) -> io::Result<()> {
     let Some(work) = read_work(line) else {
-        return println!(rt; "five numbers are wanted");
+        return println!(rt; "five numbers are wanted, or ten");
     };
     match run(rt, alloc, &work) {
         Some(granted) => println!(rt; "{granted} granted"),

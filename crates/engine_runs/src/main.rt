@@ -8,6 +8,8 @@
 //! none and no lock), and how many each makes. It prints how many calls were not refused.
 //! The word `follow` and five numbers are nodes, leaf queues, applications, asks of each, and turns of a worker that follows the
 //! journal. It prints how many containers they granted.
+//! The word `pass` and ten numbers are the same five, then MiB of a node, of what a user may have in a leaf queue, and of a container
+//! that is asked for, how many users the applications have, and whether one more application stands beside them that is served.
 //! The word `echo` and two numbers are a port of 127.0.0.1 and how many connections are accepted there, once `listening`
 //! and the port are printed: each frame that comes on one is written back to it, in a thread for each, until all have ended.
 #![tactic(auto)]
@@ -25,7 +27,7 @@ fn main(rt: HostRuntime) -> io::Result<()> {
     for line in text.lines() {
         if line.starts_with("echo ") {
             echo::print(&rt, rt.alloc(), line)?;
-        } else if line.starts_with("follow ") {
+        } else if line.starts_with("follow ") || line.starts_with("pass ") {
             following::print(&rt, rt.alloc(), line)?;
         } else if matches!(line.as_bytes().first(), Some(b'0'..=b'9')) {
             commits::print(&rt, rt.alloc(), line)?;

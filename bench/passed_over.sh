@@ -1,0 +1,36 @@
+#!/usr/bin/env bash
+# What a turn of a worker costs beside applications of which nothing can be granted: each is passed over at once, however many asks it has. Counts its instructions
+# by valgrind's callgrind, from the difference of 100 turns and 200, with 512 nodes: beside 100 applications of 256 asks each that are all over their users' limit, in
+# one leaf queue; where nothing can be granted, with 256 users at their limits in 64 leaf queues; and beside an application of 256 asks that are more than any node
+# has, against the same without it. Fails where it takes more than the bound beside each. Needs valgrind, a package of most distributions.
+. "$(dirname "${BASH_SOURCE[0]}")/common.sh"
+need_valgrind
+build_engine_runs
+
+broken=0
+# a_turn GRANTS NODES LEAVES APPLICATIONS ASKS NODE GUARANTEE SIZE USERS BESIDE: the instructions of one turn, of which each grants so many
+a_turn() {
+  local turns first
+  for turns in 100 200; do
+    echo "pass $2 $3 $4 $5 $turns ${*:6}" >"$work/script"
+    count
+    [ "$(cat "$work/output")" = "$(($1 * turns)) granted" ] || { echo "${*:2}: not $1 granted a turn" >&2; exit 1; }
+    [ "$turns" = 200 ] || first=$((moved + other))
+  done
+  each=$(((moved + other - first) / 100))
+}
+# at_most BOUND WORDS..: prints it, and notes where it is more
+at_most() {
+  echo "${*:2}: $each instructions a turn (at most $1)"
+  [ "$each" -le "$1" ] || broken=1
+}
+a_turn 1 512 1 100 256 999999 1024 2048 100 1
+at_most 100000 100 applications of 256 asks over their users\' limit
+a_turn 0 512 64 256 256 999999 1024 2048 256 0
+at_most 150000 256 users at their limits, nothing granted
+a_turn 1 512 1 1 256 4096 999999 8192 1 1
+larger=$each
+a_turn 1 512 1 0 1 4096 999999 8192 1 1
+echo "256 asks larger than any node: $larger instructions a turn, $each without them"
+ratio "$each" "$larger" 1.2 || broken=1
+exit "$broken"
