@@ -1,5 +1,5 @@
 #!/usr/bin/env python3
-"""Writes the list of crates and files in `docs/ARCHITECTURE.md` out of the first sentences of the files themselves: `//! ..` of a source, `-- ..` of a file of specs.
+"""Writes `docs/FILES.md`, the list of crates and files, out of the first sentences of the files themselves: `//! ..` of a source, `-- ..` of a file of specs.
 
 With `--check` it writes nothing, and fails where the document is not what it would write. It fails too where a file does not begin with such a sentence.
 """
@@ -9,8 +9,12 @@ import sys
 import textwrap
 
 TOP = os.path.dirname(os.path.dirname(os.path.abspath(__file__)))
-DOCUMENT = f"{TOP}/docs/ARCHITECTURE.md"
-BEGIN, END = "<!-- docs/where.py writes this list -->\n", "<!-- the end of the list -->\n"
+DOCUMENT = "docs/FILES.md"
+HEAD = """# Files
+
+`docs/where.py` writes this document out of the first sentence of each file in `src/` and `specs/`, crate by crate in
+the order of `crates.txt`; `.ci/run` compares.
+"""
 WIDTH = 120
 
 
@@ -58,17 +62,14 @@ def items_of(crate):
 
 def main():
     crates = [line.partition(":")[0] for line in read(f"{TOP}/crates.txt").splitlines() if not line.startswith("#")]
-    old = read(DOCUMENT)
-    if old.count(BEGIN) != 1 or old.count(END) != 1:
-        sys.exit(f"docs/ARCHITECTURE.md does not have the lines {BEGIN.strip()} and {END.strip()} once")
-    before, after = old.partition(BEGIN)[0], old.partition(END)[2]
-    new = f"{before}{BEGIN}\n" + "\n".join(it for crate in crates for it in items_of(crate)) + f"\n\n{END}{after}"
+    old = read(f"{TOP}/{DOCUMENT}") if os.path.exists(f"{TOP}/{DOCUMENT}") else ""
+    new = f"{HEAD}\n" + "\n".join(it for crate in crates for it in items_of(crate)) + "\n"
     if "--check" not in sys.argv[1:]:
-        with open(DOCUMENT, "w", encoding="utf-8") as file:
+        with open(f"{TOP}/{DOCUMENT}", "w", encoding="utf-8") as file:
             file.write(new)
     elif new != old:
-        sys.stdout.writelines(difflib.unified_diff(old.splitlines(True), new.splitlines(True), "docs/ARCHITECTURE.md", "docs/where.py", n=0))
-        sys.exit("docs/ARCHITECTURE.md is not what the files say of themselves: run docs/where.py")
+        sys.stdout.writelines(difflib.unified_diff(old.splitlines(True), new.splitlines(True), DOCUMENT, "docs/where.py", n=0))
+        sys.exit(f"{DOCUMENT} is not what the files say of themselves: run docs/where.py")
 
 
 main()
