@@ -7,7 +7,7 @@ use cap_base::RESOURCES;
 use cap_commands::{complain, no_memory, print};
 use cap_config::{Config, ConfigFaultKind, DetailedFault, read_detailed};
 use cap_records::AuditFile;
-use cap_server::{Opened, Sizes, serve_on};
+use cap_server::{Opened, Scheduling, Sizes, serve_on};
 use cap_session::Counted;
 use cap_workers::Tally;
 use clap::builder::ValueParser;
@@ -26,6 +26,9 @@ const JOURNAL: &str = "4096";
 
 /// How many proposals wait for the committer, if no other number is given.
 const LANES: &str = "64";
+
+/// How workers see the cluster, if nothing else is said.
+const SCHEDULING: &str = "follow";
 
 /// For how many seconds connections are served on once standard input has ended, if no other number is given.
 const DRAIN: &str = "10";
@@ -80,6 +83,15 @@ pub(crate) fn serve_command<'a>(alloc: Global) -> Result<Command<'a>, AllocError
             "How many proposals wait for the committer, at least 8; 0: each worker commits its own",
         )
         .default_value(LANES))?
+        .arg(
+            text(
+                alloc,
+                "scheduling",
+                "Whether workers follow the journal, each with a cluster of its own, or copy the cluster",
+            )
+            .value_parser(["follow", "copy"].as_slice())
+            .default_value(SCHEDULING),
+        )?
         .arg(flag(
             alloc,
             "renew",
@@ -140,6 +152,7 @@ fn read_words<'a>(matches: &ArgMatches<'a>) -> Option<Words<'a>>
         audit: matches.get_str("audit"),
         sizes: Sizes {
             workers: matches.get_one("workers")?,
+            scheduling: scheduling(matches.get_str("scheduling")?),
             connections: matches.get_one("connections")?,
             journal: matches.get_one("journal")?,
             lanes: if lanes == 0 { None } else { Some(lanes) },
@@ -155,6 +168,14 @@ fn read_words<'a>(matches: &ArgMatches<'a>) -> Option<Words<'a>>
         return None;
     }
     Some(words)
+}
+
+/// How workers see the cluster, by its word.
+fn scheduling(word: &str) -> Scheduling {
+    match word {
+        "copy" => Scheduling::Copy,
+        _ => Scheduling::Follow,
+    }
 }
 
 /// Serves connections on a port of 127.0.0.1, over a cluster with the queues of a settings file. The result is the exit status: 0 done; 1

@@ -1,11 +1,9 @@
 -- What a daemon prints, and with which exit status it ends.
 use Rattle.std.specs.Prelude.{◌≡◌, ◌⊎◌, ℕ, ◌≤◌, List, [], ◌++◌, Option, codes, decimal}
 use Rattle.std.specs.Io.KnownBytes.{Appends}
-use Rattle.cap_base.specs.Limits.{resources}
-use Rattle.cap_model.specs.Flat.{Flat}
 use Rattle.cap_session.specs.Counted.{StreamState}
 use Rattle.cap_server.specs.declared.serving.Totals.{Totals}
-use Rattle.cap_server.specs.Epochs.{LeadsThrough}
+use Rattle.cap_server.specs.Epochs.{LeadsThrough, Standing}
 
 abbrev pub listening_line : ℕ → List ℕ
 listening_line port = codes "listening " ++ decimal port ++ codes "\n"
@@ -34,25 +32,25 @@ IsStarved status out = (status ≡ 3) × (out ≡ no_memory_line)
 abbrev pub IsRefused : ℕ → List ℕ → Type 0
 IsRefused status out = IsStarved status out ⊎ ((status ≡ 1) × (out ≡ []))
 
--- Epochs were closed, each of as many workers, whose journals, each at most the limit, lead one after the other from the opening cluster to the last
--- one. What is printed is how many journals there were and how many entries they have together.
-pub record IsClosed (limit workers : ℕ) (opening : Flat resources) (status : ℕ) (out : List ℕ) : Type 0 where
+-- Epochs were closed, whose journals, each at most the limit, lead one after the other from the opening cluster to the last one. What is printed is how
+-- many journals there were and how many entries they have together.
+pub record IsClosed (limit : ℕ) (opening : Standing) (status : ℕ) (out : List ℕ) : Type 0 where
   pub totals : Totals
-  pub closing : Flat resources
-  pub journals : LeadsThrough limit workers opening totals closing
+  pub closing : Standing
+  pub journals : LeadsThrough limit opening totals closing
   pub printed : out ≡ closed_line totals
   pub done : status ≤ 1
 
-abbrev pub Closes : (limit workers : ℕ) → Flat resources → ℕ → List ℕ → Type 0
-Closes limit workers opening status out = IsStarved status out ⊎ IsClosed limit workers opening status out
+abbrev pub Closes : ℕ → Standing → ℕ → List ℕ → Type 0
+Closes limit opening status out = IsStarved status out ⊎ IsClosed limit opening status out
 
 -- the port was printed, and then what came of the epochs
-pub record Listens (limit workers : ℕ) (opening : Flat resources) (status : ℕ) (out : List ℕ) : Type 0 where
+pub record Listens (limit : ℕ) (opening : Standing) (status : ℕ) (out : List ℕ) : Type 0 where
   pub port : ℕ
   pub more : List ℕ
   pub printed : out ≡ listening_line port ++ more
-  pub closes : Closes limit workers opening status more
+  pub closes : Closes limit opening status more
 
 -- all that a daemon prints
-abbrev pub Ends : (limit workers : ℕ) → Flat resources → ℕ → List ℕ → Type 0
-Ends limit workers opening status out = IsRefused status out ⊎ Listens limit workers opening status out
+abbrev pub Ends : ℕ → Standing → ℕ → List ℕ → Type 0
+Ends limit opening status out = IsRefused status out ⊎ Listens limit opening status out

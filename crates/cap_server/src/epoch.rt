@@ -1,10 +1,11 @@
 //! An epoch: all tasks over one shared cluster, until its journal is full or all connections have ended (`epoch`).
-ghost use Rattle.std.specs.Prelude.{◌≡◌, ◌≤◌, ◌<◌, ◌+◌, length, map, IfOk};
+ghost use Rattle.std.specs.Prelude.{◌≡◌, ◌≤◌, ◌<◌, ◌+◌, Some, IfOk, IfSome, length, map};
+ghost use Rattle.std.specs.Option.{ForSome, option_to_list};
 ghost use Rattle.cap_shared.specs.WordRule.{fresh};
 ghost use Rattle.cap_workers.specs.Idle.{AllAre};
-ghost use Rattle.cap_server.specs.Epochs.{LeadsTo};
+ghost use Rattle.cap_server.specs.Epochs.{LeadsTo, standing};
 
-use crate::participants::{EpochThreads, Lanes, Left, Participants};
+use crate::participants::{EpochThreads, Left, Participants};
 use crate::places::Places;
 use crate::state::SharedState;
 use crate::task::Records;
@@ -12,8 +13,11 @@ use crate::threads::{Common, run_threads};
 use cap_base::RESOURCES;
 use cap_commit::Cluster;
 use cap_model::NoMemory;
-use cap_shared::{Blank, Closed, Naming, Seat, Shared};
-use cap_workers::{Coordinator, Gate, IdleWorker, begin_epoch, close_epoch};
+use cap_shared::{Blank, Closed, Seat, Shared};
+use cap_workers::{
+    BegunEpoch, BlankLanes, Coordinator, Gate, IdleWorker, LaneNaming, Worker, begin_epoch,
+    close_epoch, in_order,
+};
 use std::alloc::Global;
 use std::io::Input;
 use std::marker::Brand;
@@ -49,8 +53,9 @@ impl Carried {
 }
 
 /// An epoch over the cluster that the last one left, with a seat for each connection, each worker and the committer: its journal leads from this
-/// cluster to the one that is left, and each worker has that too. As many workers go on as began, and what the seat of each was answered are its turns, or
-/// its offers and commits, and nothing else. An error means that an allocation failed or that a thread could not be made; the cluster is given up then.
+/// cluster to the one that is left, and each worker that has a cluster of its own has that too. The workers begin as they are and go on as they have left,
+/// in the same order. What the seat of each was answered is its turns, or its offers, and nothing else; what was put into lanes was taken and committed,
+/// each once, or is left, and then dropped. An error means that an allocation failed or that a thread could not be made; the cluster is given up then.
 pub(crate) fn epoch<H: Net + Threads + Wait + Clock + Eprint + Input + Sync, G: Gate + Sync>(
     rt: &H,
     alloc: Global,
@@ -58,65 +63,81 @@ pub(crate) fn epoch<H: Net + Threads + Wait + Clock + Eprint + Input + Sync, G: 
     state: &SharedState<'_, G>,
 ) -> Result<Carried, NoMemory>
     requires { AllAre carried.cluster.flat carried.workers.items }
-    ensures run { IfOk result (λ next. LeadsTo state.now.limit carried.cluster.flat
-        (map (λ w. w.worker) next.workers.items) next.entries next.cluster.flat) }
+    ensures run { IfOk result (λ next. LeadsTo state.now.limit
+        (standing carried.cluster.flat carried.workers.items) next.entries
+        (standing next.cluster.flat next.workers.items)) }
     ensures workers { IfOk result (λ next. AllAre next.cluster.flat next.workers.items) }
-    ensures count { IfOk result (λ next.
-        length next.workers.items ≡ length carried.workers.items) }
 {
-    match Blank::new(alloc, state.seats) {
-        Ok(blank) => {
+    match (
+        Blank::new(alloc, state.seats),
+        blank_lanes(alloc, state.lanes),
+    ) {
+        (Ok(blank), Ok(lanes)) => {
             let (cluster, workers, participants) = carried.into_parts();
+            let blanks = (blank, lanes);
             let begun = (workers, participants);
-            named_epoch::<Brand, H, G>(rt, alloc, blank, cluster, begun, state)
+            named_epoch::<Brand, H, G>(rt, alloc, blanks, cluster, begun, state)
         }
-        Err(NoMemory) => Err(NoMemory),
+        _ => Err(NoMemory),
+    }
+}
+
+/// Lanes with room for so many proposals, if there are to be any. If an allocation fails there are none.
+fn blank_lanes(alloc: Global, capacity: Option<usize>) -> Result<Option<BlankLanes>, NoMemory>
+    requires { ForSome capacity (λ places. (8 ≤ places) × (places ≤ 1024)) }
+{
+    match capacity {
+        Some(capacity) => Ok(Some(BlankLanes::new(alloc, capacity)?)),
+        None => Ok(None),
     }
 }
 
 /// The same under a name.
 fn named_epoch<
-    J: Naming + Send + Sync,
+    J: LaneNaming + Send + Sync,
     H: Net + Threads + Wait + Clock + Eprint + Input + Sync,
     G: Gate + Sync,
 >(
     rt: &H,
     alloc: Global,
-    blank: Blank,
+    blanks: (Blank, Option<BlankLanes>),
     cluster: Cluster<RESOURCES>,
     begun: (Vec<IdleWorker>, Participants),
     state: &SharedState<'_, G>,
 ) -> Result<Carried, NoMemory>
-    requires named { blank.0 ≡ J.table }
+    requires named { blanks.0.0 ≡ J.table }
+    requires lanes { blanks.1 ≡ J.lanes }
     requires opening { cluster.flat ≡ J.opening }
     requires workers { AllAre J.opening begun.0.items }
     requires limit { state.now.limit ≡ J.limit }
-    requires seats { blank.1 ≡ J.seats }
+    requires seats { blanks.0.1 ≡ J.seats }
     requires count { state.now.seats ≡ J.seats }
     requires some { (1 ≤ J.limit) × (J.limit ≤ 1000000) }
     requires few { (1 ≤ J.seats) × (J.seats ≤ 256) }
-    ensures run { IfOk result (λ next. LeadsTo state.now.limit cluster.flat
-        (map (λ w. w.worker) next.workers.items) next.entries next.cluster.flat) }
+    ensures run { IfOk result (λ next. LeadsTo state.now.limit
+        (standing cluster.flat begun.0.items) next.entries
+        (standing next.cluster.flat next.workers.items)) }
     ensures workers { IfOk result (λ next. AllAre next.cluster.flat next.workers.items) }
-    ensures count { IfOk result (λ next. length next.workers.items ≡ length begun.0.items) }
 {
+    let (blank, lanes) = blanks;
     let (shared, seats) = Shared::<J>::open(alloc, blank, cluster, state.limit)?;
-    let left = work_all(rt, alloc, &shared, state, begun, seats)?;
+    let left = work_all(rt, alloc, &shared, state, begun, (seats, lanes))?;
     let Left {
         participants,
         workers,
         seats,
+        lanes,
     } = left;
-    let (closed, workers) = close_epoch(alloc, shared, seats, workers)?;
+    let (closed, workers) = close_epoch(rt, alloc, shared, seats, workers, lanes)?;
     let (carried, records) = parted(closed, workers, participants);
     state.leave(rt, records, carried.participants.acceptor.accepted());
     Ok(carried)
 }
 
-/// Does what is to be done, in threads, until the epoch ends. Who works on comes back, with all seats. An error means that an allocation failed, or
-/// that a thread could not be made.
+/// Does what is to be done, in threads, until the epoch ends. Who works on comes back, with all seats, the workers in the order in which they began. An
+/// error means that an allocation failed, or that a thread could not be made.
 fn work_all<
-    J: Naming + Send + Sync,
+    J: LaneNaming + Send + Sync,
     H: Net + Threads + Wait + Clock + Eprint + Input + Sync,
     G: Gate + Sync,
 >(
@@ -125,20 +146,24 @@ fn work_all<
     shared: &Shared<J>,
     state: &SharedState<'_, G>,
     begun: (Vec<IdleWorker>, Participants),
-    seats: Vec<Seat<J>>,
+    opened: (Vec<Seat<J>>, Option<BlankLanes>),
 ) -> Result<Left<J>, NoMemory>
     requires count { state.now.seats ≡ J.seats }
     requires workers { AllAre J.opening begun.0.items }
-    requires fresh { seats.items ≡ fresh 0 J.seats }
-    ensures seats { IfOk result (λ left.
-        length left.seats.items + length left.workers.items ≡ J.seats) }
-    ensures workers { IfOk result (λ left. length left.workers.items ≡ length begun.0.items) }
+    requires fresh { opened.0.items ≡ fresh 0 J.seats }
+    requires lanes { IfSome opened.1 (λ blank. Some blank ≡ J.lanes) }
+    ensures seats { IfOk result (λ left. length left.seats.items + length left.workers.items
+        + length (option_to_list left.lanes) ≡ J.seats) }
+    ensures began { IfOk result (λ left.
+        map (λ w. w.first) left.workers.items ≡ map (λ w. w.worker) begun.0.items) }
 {
     let (workers, participants) = begun;
-    let count = workers.len();
-    let mut seats = seats;
-    let schedulers = begin_epoch(alloc, workers, &mut seats)?;
-    let lanes = Lanes::new(alloc, state.lanes)?;
+    let (mut seats, lanes) = opened;
+    let BegunEpoch {
+        schedulers,
+        firsts,
+        lanes,
+    } = begin_epoch(rt, alloc, workers, &mut seats, lanes)?;
     let running = EpochThreads::new(alloc, seats, schedulers.len())?;
     let common = Common {
         coordinator: Coordinator::new(),
@@ -151,16 +176,41 @@ fn work_all<
         shared,
         state,
         &common,
-        lanes,
-        (running, schedulers),
+        (running, schedulers, lanes),
         participants,
     )?;
-    if left.workers.len() != count
-        || left.seats.len().checked_add(count) != Some(state.seats as usize)
-    {
+    settled(alloc, left, firsts, state.seats)
+}
+
+/// What the threads of an epoch have left, with the workers in the order in which they began. An error means that one of them, or a seat, is missing, or
+/// that an allocation failed.
+fn settled<J: LaneNaming>(
+    alloc: Global,
+    left: Left<J>,
+    firsts: Vec<Worker>,
+    seats: u32,
+) -> Result<Left<J>, NoMemory>
+    ensures seats { IfOk result (λ left. length left.seats.items + length left.workers.items
+        + length (option_to_list left.lanes) ≡ seats) }
+    ensures began { IfOk result (λ left. map (λ w. w.first) left.workers.items ≡ firsts.items) }
+{
+    let Left {
+        participants,
+        workers,
+        seats: back,
+        lanes,
+    } = left;
+    let workers = in_order(alloc, firsts, workers)?;
+    let count = back.len() + workers.len() + usize::from(lanes.is_some());
+    if count != seats as usize {
         return Err(NoMemory);
     }
-    Ok(left)
+    Ok(Left {
+        participants,
+        workers,
+        seats: back,
+        lanes,
+    })
 }
 
 /// What a closed epoch leaves for the next, and what is left of it beside that.

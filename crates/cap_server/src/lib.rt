@@ -12,4 +12,4 @@ mod state;
 mod task;
 mod threads;
 
-pub use serving::{Opened, Sizes, serve_on};
+pub use serving::{Opened, Scheduling, Sizes, serve_on};

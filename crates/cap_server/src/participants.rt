@@ -1,14 +1,12 @@
-//! Who works on from epoch to epoch, and with what (`Participants`), the lanes, and the threads of an epoch.
-ghost use Rattle.std.specs.Prelude.{◌<◌, ◌≤◌};
-ghost use Rattle.std.specs.Option.{ForSome};
+//! Who works on from epoch to epoch, and with what (`Participants`), and the threads of an epoch.
 
 use crate::acceptor::Acceptor;
 use crate::connection::ClientConnection;
 use crate::task::Done;
 use cap_model::NoMemory;
-use cap_shared::{Naming, Seat};
+use cap_shared::Seat;
 use cap_streams::EndSignal;
-use cap_workers::{Committer, Putter, Scheduled, lanes};
+use cap_workers::{LaneCommitter, LaneNaming, Scheduled};
 use std::alloc::Global;
 use std::sync::Wait;
 use std::thread::{JoinHandle, Threads};
@@ -32,58 +30,25 @@ impl Participants {
     }
 }
 
-/// What the threads of an epoch leave: who works on, and all seats, those of workers with them. Each worker took turns, or made offers and
-/// commits, and nothing else.
+/// What the threads of an epoch leave: who works on, and all seats, those of workers and of the committer with them. Each worker took turns, or made
+/// offers, and nothing else.
 #[derive(Drop)]
-pub(crate) struct Left<J: Naming> {
+pub(crate) struct Left<J: LaneNaming> {
     pub participants: Participants,
     pub workers: Vec<Scheduled<J>>,
     pub seats: Vec<Seat<J>>,
-}
-
-/// Both ends of the lanes of an epoch, or nothing.
-#[derive(Drop)]
-pub(crate) struct Lanes {
-    pub committer: Option<Committer>,
-    pub putters: Vec<Putter>,
-}
-
-impl Lanes {
-    /// Lanes with room for so many proposals, or nothing. If an allocation fails there are none.
-    pub(crate) fn new(alloc: Global, capacity: Option<usize>) -> Result<Lanes, NoMemory>
-        requires { ForSome capacity (λ places. (8 ≤ places) × (places ≤ 1024)) }
-    {
-        let Some(capacity) = capacity else {
-            return Ok(Lanes {
-                committer: None,
-                putters: Vec::new(alloc),
-            });
-        };
-        let (committer, putters) = lanes(alloc, capacity)?;
-        let Ok(putters) = Vec::from_array(alloc, putters) else {
-            return Err(NoMemory);
-        };
-        Ok(Lanes {
-            committer: Some(committer),
-            putters,
-        })
-    }
-
-    /// The end of the committer, and those of the workers.
-    pub(crate) fn into_parts(self) -> (Option<Committer>, Vec<Putter>) {
-        let Lanes { committer, putters } = self;
-        (committer, putters)
-    }
+    /// What was committed out of the lanes, if the epoch had any.
+    pub lanes: Option<LaneCommitter<J>>,
 }
 
 /// A thread, and the number of the seat that it serves a connection with, if it does.
 #[derive(Drop)]
-pub(crate) struct SeatedThread<J: Naming> {
+pub(crate) struct SeatedThread<J: LaneNaming> {
     seat: Option<u32>,
     thread: JoinHandle<Done<J>>,
 }
 
-impl<J: Naming> SeatedThread<J> {
+impl<J: LaneNaming> SeatedThread<J> {
     /// A thread that serves a connection with the seat of this number, or none.
     pub(crate) fn new(seat: Option<u32>, thread: JoinHandle<Done<J>>) -> SeatedThread<J> {
         SeatedThread { seat, thread }
@@ -98,7 +63,7 @@ impl<J: Naming> SeatedThread<J> {
 
 /// The threads of an epoch, and what is to be given back when it ends.
 #[derive(Drop)]
-pub(crate) struct EpochThreads<J: Naming> {
+pub(crate) struct EpochThreads<J: LaneNaming> {
     /// Those that nobody has.
     pub seats: Vec<Seat<J>>,
     pub threads: Vec<SeatedThread<J>>,
@@ -107,14 +72,16 @@ pub(crate) struct EpochThreads<J: Naming> {
     /// Those that have no thread and wait for none.
     pub connections: Vec<ClientConnection>,
     pub workers: Vec<Scheduled<J>>,
+    /// What was committed out of the lanes, once the committer's thread has ended.
+    pub lanes: Option<LaneCommitter<J>>,
     /// How many connections have ended whose places were not given on yet.
     pub ended: u32,
     /// Whether an allocation failed, or a thread could not be made.
     pub has_failed: bool,
 }
 
-impl<J: Naming> EpochThreads<J> {
-    /// Before the first thread, with all seats but those of so many workers. All memory that is needed later is allocated here. If an allocation fails
+impl<J: LaneNaming> EpochThreads<J> {
+    /// Before the first thread, with all seats but those of so many workers and of the committer. All memory that is needed later is allocated here. If an allocation fails
     /// there is none.
     pub(crate) fn new(
         alloc: Global,
@@ -136,6 +103,7 @@ impl<J: Naming> EpochThreads<J> {
             waiting,
             connections,
             workers: left,
+            lanes: None,
             ended: 0,
             has_failed: false,
         })
@@ -234,7 +202,10 @@ impl<J: Naming> EpochThreads<J> {
                 self.is_seat_back(seat)
             }
             Done::Worker(worker) => self.workers.push(worker).is_ok(),
-            Done::Committer(seat) => self.is_seat_back(seat),
+            Done::Committer(lanes) => {
+                self.lanes = Some(lanes);
+                true
+            }
             Done::Nothing => false,
         };
         if !is_kept {
@@ -299,6 +270,7 @@ impl<J: Naming> EpochThreads<J> {
             mut waiting,
             mut connections,
             workers,
+            lanes,
             ended,
             has_failed,
         } = self;
@@ -313,6 +285,7 @@ impl<J: Naming> EpochThreads<J> {
             },
             workers,
             seats,
+            lanes,
         })
     }
 }

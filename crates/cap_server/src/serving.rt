@@ -1,11 +1,11 @@
 //! The daemon's run: its sizes (`Sizes`), one epoch after the other, and what it prints (`serve_on`).
-ghost use Rattle.std.specs.Prelude.{◌≡◌, ◌<◌, ◌≤◌, ◌↔◌, Err, IfOk, IfErr, OnOk, MatchResult, IsTrue, length};
+ghost use Rattle.std.specs.Prelude.{◌≡◌, ◌<◌, ◌≤◌, ◌↔◌, Err, IfOk, IfErr, OnOk, MatchResult, IsTrue, map};
 ghost use Rattle.std.specs.Io.KnownBytes.{Appends};
 ghost use Rattle.cap_model.specs.Flat.{opened_cluster};
 ghost use Rattle.cap_session.specs.Counted.{state_of, inner_of, CanCount};
 ghost use Rattle.cap_workers.specs.Idle.{AllAre};
 ghost use Rattle.cap_server.specs.Bounds.{IsAllowed};
-ghost use Rattle.cap_server.specs.Epochs.{LeadsThrough, one_more};
+ghost use Rattle.cap_server.specs.Epochs.{LeadsThrough, new_workers, one_more, standing};
 ghost use Rattle.cap_server.specs.Printed.{Prints, IsStarved, IsRefused, Closes, Ends, listening_line};
 
 use crate::acceptor::Acceptor;
@@ -31,11 +31,21 @@ use std::time::Clock;
 /// How many bytes `keep_memory` asks for: a bit less than 32 MiB.
 const KEPT: usize = 33_000_000;
 
+/// How the workers of a daemon see the cluster.
+#[derive(Clone, Copy, Debug, PartialEq, Eq)]
+pub enum Scheduling {
+    /// Each has a cluster of its own, which follows the journal.
+    Follow,
+    /// Each copies the cluster for each turn.
+    Copy,
+}
+
 /// How large a daemon is.
 #[derive(Clone, Copy, Debug)]
 pub struct Sizes {
     /// How many workers schedule: 1 to 8.
     pub workers: u32,
+    pub scheduling: Scheduling,
     /// How many connections are accepted: 1 to 128.
     pub connections: u32,
     /// How many entries an epoch's journal has at most: 1 to 1,000,000.
@@ -117,7 +127,10 @@ pub fn serve_on<H: Net + Threads + Wait + Clock + Eprint + Input + Sync, G: Gate
     ensures failed { (state_of writer.old).failures < (state_of writer.new).failures → result ≡ 1 }
     ensures printed { Prints (state_of writer.old) (state_of writer.new)
         (W.contents (inner_of writer.old)) (W.contents (inner_of writer.new))
-        (Ends sizes.now.journal sizes.now.workers (opened_cluster config.now) result) }
+        (Ends sizes.now.journal record {
+          cluster = opened_cluster config.now;
+          workers = new_workers sizes.now.workers;
+        } result) }
 {
     let Opened { listener, audit } = opened;
     let port = match port_of(&listener) {
@@ -202,7 +215,7 @@ fn serve_all<H: Net + Threads + Wait + Clock + Eprint + Input + Sync, G: Gate + 
     ensures failed { (state_of writer.old).failures < (state_of writer.new).failures → result ≡ 1 }
     ensures printed { Prints (state_of writer.old) (state_of writer.new)
         (W.contents (inner_of writer.old)) (W.contents (inner_of writer.new))
-        (Closes state.now.limit (length carried.workers.items) carried.cluster.flat result) }
+        (Closes state.now.limit (standing carried.cluster.flat carried.workers.items) result) }
 {
     let Ok((totals, carried)) = run_all(rt, alloc, state, carried) else {
         return no_memory(writer);
@@ -259,7 +272,7 @@ fn port_of(listener: &TcpListener) -> io::Result<u16> {
     Ok(listener.local_addr()?.port())
 }
 
-/// The cluster of the settings, and the workers, each with the same. An error means that an allocation failed.
+/// The cluster of the settings, and the workers, each with the same if it follows the journal. An error means that an allocation failed.
 fn begin(
     alloc: Global,
     config: &Config<RESOURCES>,
@@ -269,10 +282,10 @@ fn begin(
     ensures cluster { IfOk result (λ carried. carried.cluster.flat ≡ opened_cluster config.now) }
     ensures workers { IfOk result (λ carried.
         AllAre (opened_cluster config.now) carried.workers.items) }
-    ensures count { IfOk result (λ carried.
-        length carried.workers.items ≡ sizes.now.workers) }
+    ensures new { IfOk result (λ carried.
+        map (λ w. w.worker) carried.workers.items ≡ new_workers sizes.now.workers) }
 {
-    let workers = workers_of(alloc, config, sizes.workers)?;
+    let workers = workers_of(alloc, config, sizes)?;
     Ok(Carried {
         cluster: Cluster::from_config(alloc, config)?,
         workers,
@@ -284,22 +297,24 @@ fn begin(
     })
 }
 
-/// So many workers, numbered from 0, each with the cluster of the settings. An error means that an allocation failed.
+/// So many workers, numbered from 0, each with the cluster of the settings if it follows the journal. An error means that an allocation failed.
 fn workers_of(
     alloc: Global,
     config: &Config<RESOURCES>,
-    count: u32,
+    sizes: &Sizes,
 ) -> Result<Vec<IdleWorker>, NoMemory>
     ensures same { IfOk result (λ workers. AllAre (opened_cluster config.now) workers.items) }
-    ensures count { IfOk result (λ workers. length workers.items ≡ count) }
+    ensures new { IfOk result (λ workers.
+        map (λ w. w.worker) workers.items ≡ new_workers sizes.now.workers) }
 {
     let mut workers = Vec::new(alloc);
-    for number in 0..count {
-        let worker = IdleWorker {
-            worker: Worker::new(number),
-            cluster: Cluster::from_config(alloc, config)?,
+    for number in 0..sizes.workers {
+        let cluster = match sizes.scheduling {
+            Scheduling::Follow => Some(Cluster::from_config(alloc, config)?),
+            Scheduling::Copy => None,
         };
-        let Ok(()) = workers.push(worker) else {
+        let worker = Worker::new(number);
+        let Ok(()) = workers.push(IdleWorker { worker, cluster }) else {
             return Err(NoMemory);
         };
     }
@@ -322,8 +337,9 @@ fn run_all<H: Net + Threads + Wait + Clock + Eprint + Input + Sync, G: Gate + Sy
     carried: Carried,
 ) -> Result<(Totals, Carried), NoMemory>
     requires { AllAre carried.cluster.flat carried.workers.items }
-    ensures { IfOk result (λ run. LeadsThrough state.now.limit (length carried.workers.items)
-        carried.cluster.flat run.0 run.1.cluster.flat) }
+    ensures { IfOk result (λ run. LeadsThrough state.now.limit
+        (standing carried.cluster.flat carried.workers.items) run.0
+        (standing run.1.cluster.flat run.1.workers.items)) }
 {
     let run = run_epochs(rt, alloc, state, carried);
     state.clear(rt, alloc);
@@ -343,8 +359,9 @@ fn run_epochs<H: Net + Threads + Wait + Clock + Eprint + Input + Sync, G: Gate +
     carried: Carried,
 ) -> Result<(Totals, Carried), NoMemory>
     requires { AllAre carried.cluster.flat carried.workers.items }
-    ensures { IfOk result (λ run. LeadsThrough state.now.limit (length carried.workers.items)
-        carried.cluster.flat run.0 run.1.cluster.flat) }
+    ensures { IfOk result (λ run. LeadsThrough state.now.limit
+        (standing carried.cluster.flat carried.workers.items) run.0
+        (standing run.1.cluster.flat run.1.workers.items)) }
 {
     keep_memory(alloc);
     let mut carried = carried;

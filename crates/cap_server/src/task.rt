@@ -4,10 +4,11 @@ ghost use Rattle.std.specs.Prelude.{◌≡◌};
 use crate::connection::ClientConnection;
 use crate::places::{Given, Place};
 use crate::state::SharedState;
-use cap_shared::{Entry, Naming, Seat, SeatReport, Shared};
+use cap_shared::{Entry, Seat, SeatReport, Shared};
 use cap_streams::EndSignal;
 use cap_workers::{
-    Committer, Coordinator, Direction, Gate, Putter, Scheduled, Scheduler, StopSignal, commit_all,
+    Coordinator, Direction, Gate, LaneCommitter, LaneNaming, Scheduled, Scheduler, StopSignal,
+    commit_all,
 };
 use std::sync::Wait;
 use std::time::{Clock, Duration};
@@ -21,11 +22,11 @@ pub(crate) struct Records {
 
 /// What a thread does in an epoch that serves no connection.
 #[derive(Drop)]
-pub(crate) enum Task<J: Naming> {
-    /// Schedules, through a lane if it has one.
-    Schedule(Scheduler<J>, Option<Putter>),
+pub(crate) enum Task<J: LaneNaming> {
+    /// Schedules, through its lane if it has one.
+    Schedule(Scheduler<J>),
     /// Commits what workers put into their lanes.
-    Commit(Committer, Seat<J>),
+    Commit(LaneCommitter<J>),
 }
 
 /// When those that schedule leave an epoch: as it ends.
@@ -53,41 +54,43 @@ impl StopSignal for Leaving<'_> {
 
 /// What a thread leaves.
 #[derive(Drop)]
-pub(crate) enum Done<J: Naming> {
+pub(crate) enum Done<J: LaneNaming> {
     /// A connection that is served on, and its seat.
     Connection(ClientConnection, Seat<J>),
     /// The connection has ended that was served with this seat.
     Ended(Seat<J>),
     Worker(Scheduled<J>),
-    /// The committer's seat. The next epoch has a committer of its own.
-    Committer(Seat<J>),
-    /// Nothing was given to the thread.
+    /// What the lanes are closed with.
+    Committer(LaneCommitter<J>),
+    /// Nothing was given to the thread, or it has nothing to give back.
     Nothing,
 }
 
-impl<J: Naming> Task<J> {
+impl<J: LaneNaming> Task<J> {
     /// Does the task in an epoch. It ends once the epoch does; the committer's once the workers have ended.
     pub(crate) fn work<H: Wait + Clock, G: Gate>(
         self,
         rt: &H,
         shared: &Shared<J>,
         state: &SharedState<'_, G>,
-        coordinator: &Coordinator,
+        coordinator: &Coordinator<J>,
     ) -> Done<J> {
         match self {
-            Task::Schedule(scheduler, putter) => {
-                Done::Worker(propose(rt, shared, state, coordinator, scheduler, putter))
+            Task::Schedule(scheduler) => {
+                Done::Worker(propose(rt, shared, state, coordinator, scheduler))
             }
-            Task::Commit(committer, mut seat) => {
-                commit_all(rt, shared, &mut seat, coordinator, &state.gate, committer);
-                Done::Committer(seat)
+            Task::Commit(lanes) => {
+                match commit_all(rt, shared, coordinator, &state.gate, lanes) {
+                    Some(lanes) => Done::Committer(lanes),
+                    None => Done::Nothing,
+                }
             }
         }
     }
 }
 
 /// Serves the connection that was given in an epoch, until it ends or the epoch does. Where it has ended, that is noted at its place.
-pub(crate) fn serve<J: Naming, H: Wait + Clock, G>(
+pub(crate) fn serve<J: LaneNaming, H: Wait + Clock, G>(
     rt: &H,
     shared: &Shared<J>,
     state: &SharedState<'_, G>,
@@ -114,15 +117,15 @@ pub(crate) fn serve<J: Naming, H: Wait + Clock, G>(
 }
 
 /// Schedules until the journal is full or the epoch ends; where the journal is full the epoch ends.
-fn propose<J: Naming, H: Wait + Clock, G: Gate>(
+fn propose<J: LaneNaming, H: Wait + Clock, G: Gate>(
     rt: &H,
     shared: &Shared<J>,
     state: &SharedState<'_, G>,
-    coordinator: &Coordinator,
+    coordinator: &Coordinator<J>,
     scheduler: Scheduler<J>,
-    putter: Option<Putter>,
 ) -> Scheduled<J>
-    ensures { result.worker.number ≡ scheduler.worker.number }
+    ensures first { result.first ≡ scheduler.worker }
+    ensures number { result.worker.number ≡ scheduler.worker.number }
 {
     let leaving = Leaving::by(&state.signal);
     let direction = Direction {
@@ -130,7 +133,7 @@ fn propose<J: Naming, H: Wait + Clock, G: Gate>(
         signal: &leaving,
         gate: &state.gate,
     };
-    let scheduled = scheduler.schedule(rt, shared, &direction, putter);
+    let scheduled = scheduler.schedule(rt, shared, &direction);
     state.signal.raise(rt);
     scheduled
 }

@@ -3,14 +3,14 @@ ghost use denote.Param.Send.{IsSend, IsSync};
 
 use crate::acceptor::{Accept, Acceptor};
 use crate::connection::{ClientConnection, Refused};
-use crate::participants::{EpochThreads, Lanes, Left, Participants, SeatedThread};
+use crate::participants::{EpochThreads, Left, Participants, SeatedThread};
 use crate::places::{Given, Place, Places};
 use crate::state::SharedState;
 use crate::task::{Done, Task, serve};
 use cap_model::NoMemory;
-use cap_shared::{Naming, Shared};
+use cap_shared::Shared;
 use cap_streams::Course;
-use cap_workers::{Coordinator, Gate, Putter, Scheduler};
+use cap_workers::{Coordinator, Gate, LaneCommitter, LaneNaming, Scheduler};
 use std::alloc::Global;
 use std::io::Input;
 use std::net::{Net, TcpStream};
@@ -36,14 +36,17 @@ const TRY_AGAIN: u64 = 50;
 
 /// What the threads of an epoch share beside the cluster.
 #[derive(Drop)]
-pub(crate) struct Common<J: Naming> {
-    pub coordinator: Coordinator,
+pub(crate) struct Common<J: LaneNaming> {
+    pub coordinator: Coordinator<J>,
     pub places: Places<J>,
 }
 
+/// What an epoch begins with: its threads, which are none yet, the workers, and what is committed out of its lanes, if it has any.
+type BegunThreads<J> = (EpochThreads<J>, Vec<Scheduler<J>>, Option<LaneCommitter<J>>);
+
 /// Begins the threads of an epoch, and waits for them.
 pub(crate) fn run_threads<
-    J: Naming + Send + Sync,
+    J: LaneNaming + Send + Sync,
     H: Net + Threads + Wait + Clock + Eprint + Input + Sync,
     G: Gate + Sync,
 >(
@@ -52,8 +55,7 @@ pub(crate) fn run_threads<
     shared: &Shared<J>,
     state: &SharedState<'_, G>,
     common: &Common<J>,
-    lanes: Lanes,
-    begun: (EpochThreads<J>, Vec<Scheduler<J>>),
+    begun: BegunThreads<J>,
     participants: Participants,
 ) -> Result<Left<J>, NoMemory> {
     thread::scope(
@@ -70,14 +72,14 @@ pub(crate) fn run_threads<
                 state,
                 common,
             };
-            epoch.run(lanes, begun, participants)
+            epoch.run(begun, participants)
         },
     )
 }
 
 /// What all threads of an epoch are begun with.
 #[derive(Drop)]
-struct EpochScope<'s, 'a, E, J: Naming, H, G> {
+struct EpochScope<'s, 'a, E, J: LaneNaming, H, G> {
     scope: &'s Scope<'s, E>,
     rt: &'s H,
     alloc: Global,
@@ -90,20 +92,15 @@ impl<
     's,
     'a,
     E,
-    J: Naming + Send + Sync,
+    J: LaneNaming + Send + Sync,
     H: Net + Threads + Wait + Clock + Eprint + Input + Sync,
     G: Gate + Sync,
 > EpochScope<'s, 'a, E, J, H, G> {
     /// The epoch, from its first thread to its last.
-    fn run(
-        &self,
-        lanes: Lanes,
-        begun: (EpochThreads<J>, Vec<Scheduler<J>>),
-        participants: Participants,
-    ) -> Result<Left<J>, NoMemory> {
-        let (mut running, schedulers) = begun;
+    fn run(&self, begun: BegunThreads<J>, participants: Participants) -> Result<Left<J>, NoMemory> {
+        let (mut running, schedulers, lanes) = begun;
         let (mut acceptor, connections) = participants.into_parts();
-        if !self.begin_tasks(&mut running, lanes, schedulers) {
+        if !self.begin_tasks(&mut running, schedulers, lanes) {
             return Err(NoMemory);
         }
         for connection in connections {
@@ -119,23 +116,17 @@ impl<
     fn begin_tasks(
         &self,
         running: &mut EpochThreads<J>,
-        lanes: Lanes,
         schedulers: Vec<Scheduler<J>>,
+        lanes: Option<LaneCommitter<J>>,
     ) -> bool {
-        let (committer, mut putters) = lanes.into_parts();
-        if let Some(committer) = committer {
-            let Some(seat) = running.next_seat() else {
-                return false;
-            };
-            if !self.begin(running, Task::Commit(committer, seat)) {
-                return false;
-            }
+        if let Some(lanes) = lanes
+            && !self.begin(running, Task::Commit(lanes))
+        {
+            return false;
         }
         for scheduler in schedulers {
-            let putter = lane_of(&mut putters, scheduler.number());
-            self.begin(running, Task::Schedule(scheduler, putter));
+            self.begin(running, Task::Schedule(scheduler));
         }
-        finish_all(self.rt, putters);
         true
     }
 
@@ -364,7 +355,7 @@ impl<
 
 /// What came of beginning a thread.
 #[derive(Drop)]
-enum Begun<J: Naming> {
+enum Begun<J: LaneNaming> {
     Thread(JoinHandle<Done<J>>),
     /// None could be made until the epoch was ending. The task was done without, which then took no time.
     Done(Done<J>),
@@ -372,21 +363,8 @@ enum Begun<J: Naming> {
     GivenUp,
 }
 
-/// Takes the lane of the worker of this number, if there are lanes.
-fn lane_of(putters: &mut Vec<Putter>, number: u32) -> Option<Putter> {
-    let place = putters.iter().position(|it| it.worker() == number)?;
-    Some(putters.swap_remove(place))
-}
-
-/// Ends the lanes that no worker has.
-fn finish_all<H: Wait>(rt: &H, putters: Vec<Putter>) {
-    for putter in putters {
-        let _ended = putter.finish(rt);
-    }
-}
-
 /// Begins a thread for the connection that was given, which it takes. `None` if none can be made: what was given stays.
-fn begin_serving<'s, 'a, E, J: Naming + Send + Sync, H: Wait + Clock + Sync, G: Sync>(
+fn begin_serving<'s, 'a, E, J: LaneNaming + Send + Sync, H: Wait + Clock + Sync, G: Sync>(
     scope: &'s Scope<'s, E>,
     rt: &'s H,
     shared: &'s Shared<J>,
@@ -406,7 +384,7 @@ fn begin_thread<
     's,
     'a,
     E,
-    J: Naming + Send + Sync,
+    J: LaneNaming + Send + Sync,
     H: Wait + Clock + Eprint + Sync,
     G: Gate + Sync,
 >(
@@ -414,7 +392,7 @@ fn begin_thread<
     rt: &'s H,
     shared: &'s Shared<J>,
     state: &'s SharedState<'a, G>,
-    coordinator: &'s Coordinator,
+    coordinator: &'s Coordinator<J>,
     task: Task<J>,
 ) -> Begun<J> {
     let ends_alone = !matches!(task, Task::Commit(..));

@@ -1,33 +1,13 @@
 -- Commits of what was put into the lanes.
-use Rattle.cap_workers.proofs.Prelude.{◌≡◌, ℕ, Result, Ok, Err, List, [], ◌∷◌, ◌++◌, refl, sym, ◌∙◌, ap, subst, append_assoc, append-nil, NodeProposal, Entry, Sitting, Verdict, CommitFault, resources, end_by}
-use Rattle.cap_lanes.specs.Sides.{CommitterSide}
+use Rattle.cap_workers.proofs.Prelude.{◌≡◌, ℕ, Option, Some, Result, Ok, Err, List, [], ◌∷◌, ◌++◌, refl, sym, ◌∙◌, ap, subst, append_assoc, append-nil, NodeProposal, Sitting, sitting, Verdict, CommitFault, resources, end_by}
+use Rattle.cap_lanes.specs.Sides.{CommitterSide, LanesId}
 use Rattle.cap_model.specs.declared.proposal.Verdict.TheVariants as verdict
-use Rattle.cap_shared.specs.Following.{Follows}
 use Rattle.cap_shared.specs.declared.faults.CommitFault.TheVariants as fault
-use Rattle.cap_workers.specs.Committing.{Commits, commits_none, commits_one, CommitsNext, CommitsSome, CommitsTaken, CommitsTold}
+use Rattle.cap_workers.specs.Committing.{Commits, commits_none, commits_one, CommitsNext, CommitsTaken}
+use Rattle.cap_workers.specs.Lanes.{IsCommitting}
 use Rattle.cap_workers.specs.Worker.{outcome_at, outcome_by}
 use Rattle.cap_workers.specs.declared.gate.CommitOutcome.{CommitOutcome}
-use Rattle.cap_workers.proofs.Following.{committed_follows}
 use Rattle.cap_workers.proofs.Turning.{committed_by}
-
--- a replica follows the same once its seat has committed something
-commits_follow_in : (log : List Entry) {limit : ℕ} {old new : Sitting} {taken : List (ℕ × NodeProposal)} {told : List (ℕ × CommitOutcome)} → Commits limit old taken told new → Follows log old.past → Follows log new.past
-commits_follow_in log commits_none f = f
-commits_follow_in log {limit} (commits_one {mid = mid} {new = new} before worker p end one) f = committed_follows log p limit mid new end one (commits_follow_in log before f)
-
-pub commits_follow : (log : List Entry) {limit : ℕ} {old new : Sitting} → CommitsSome limit old new → Follows log old.past → Follows log new.past
-commits_follow log (told, (taken, commits)) f = commits_follow_in log commits f
-
-pub none_committed : (limit : ℕ) (s : Sitting) → CommitsSome limit s s
-none_committed limit s = ([], ([], commits_none))
-
--- one after the other
-commits_then : {limit : ℕ} {a b c : Sitting} {taken : List (ℕ × NodeProposal)} {told : List (ℕ × CommitOutcome)} → CommitsSome limit a b → Commits limit b taken told c → CommitsSome limit a c
-commits_then x commits_none = x
-commits_then x (commits_one before worker p end one) = let y = commits_then x before in (y.0 ++ (worker, outcome_at end) ∷ [], (y.1.0 ++ (worker, p) ∷ [], commits_one y.1.1 worker p end one))
-
-pub some_then : {limit : ℕ} {a b c : Sitting} → CommitsSome limit a b → CommitsSome limit b c → CommitsSome limit a c
-some_then x (told, (taken, commits)) = commits_then x commits
 
 -- what was taken and committed so far, and nothing or one proposal more
 pub none_taken : (limit : ℕ) (s : Sitting) (side : CommitterSide) → CommitsTaken limit s s side side []
@@ -49,8 +29,24 @@ next_taken limit old mid new before now after told (w, outcome) (taken, is, comm
   subst (λ (o : CommitOutcome). Commits limit old (taken ++ (w, p) ∷ []) (told ++ (w, o) ∷ []) new) (sym (came ∙ outcome_is answer)) (commits_one commits w p (end_by answer) (committed_by p limit mid new answer answers)),
 )
 
-pub taken_some : (limit : ℕ) (old new : Sitting) (before after : CommitterSide) (told : List (ℕ × CommitOutcome)) → CommitsTaken limit old new before after told → CommitsSome limit old new
-taken_some limit old new before after told (taken, is, commits) = (told, (taken, commits))
+-- what is committed with one seat, piece by piece
+commits_then : {limit : ℕ} {a b c : Sitting} {ys : List (ℕ × NodeProposal)} {more : List (ℕ × CommitOutcome)} (xs : List (ℕ × NodeProposal)) (told : List (ℕ × CommitOutcome)) → Commits limit a xs told b → Commits limit b ys more c →
+    (all : List (ℕ × CommitOutcome)) × Commits limit a (xs ++ ys) all c
+commits_then xs told x commits_none = (told, rw (append-nil xs) x)
+commits_then xs told x (commits_one {taken = taken} before worker p end one) =
+    let y = commits_then xs told x before in
+    (y.0 ++ (worker, outcome_at end) ∷ [], rw (sym (append_assoc xs taken ((worker, p) ∷ []))) (commits_one y.1 worker p end one))
 
-pub taken_told : (limit : ℕ) (old new : Sitting) (before after : CommitterSide) (told : List (ℕ × CommitOutcome)) → CommitsTaken limit old new before after told → CommitsTold limit old new told
-taken_told limit old new before after told (taken, is, commits) = (taken, commits)
+-- a seat that was answered nothing, of lanes out of which nothing was taken
+pub committing_none : (name : Option LanesId) (limit : ℕ) (side : CommitterSide) (seat : Sitting) → Some side.lanes ≡ name → side.taken ≡ [] → seat.past ≡ [] → IsCommitting name limit side seat
+committing_none name limit side seat named none fresh =
+    let same : sitting seat.seat [] ≡ seat = ap (sitting seat.seat) (sym fresh) in
+    let nothing : Commits limit (sitting seat.seat []) side.taken [] (sitting seat.seat []) = rw none commits_none in
+    (named, (seat.seat, [], subst (λ (s : Sitting). Commits limit (sitting seat.seat []) side.taken [] s) same nothing))
+
+-- more was taken out of the lanes and committed
+pub committing_more : (name : Option LanesId) (limit : ℕ) (before after : CommitterSide) (old new : Sitting) (told : List (ℕ × CommitOutcome)) → IsCommitting name limit before old → after.lanes ≡ before.lanes → CommitsTaken limit old new before after told →
+    IsCommitting name limit after new
+committing_more name limit before after old new told (named, (n, was, commits)) same (taken, is, more) =
+    let y = commits_then before.taken was commits more in
+    (ap Some same ∙ named, (n, y.0, rw is y.1))

@@ -5,6 +5,7 @@ use Rattle.cap_lanes.specs.Sides.{CommitterSide}
 use Rattle.cap_model.specs.Admission.{NodeProposal}
 use Rattle.cap_model.specs.declared.proposal.Verdict.{Verdict}
 use Rattle.cap_shared.specs.Calls.{CommitAnswers, CommitsBack}
+use Rattle.cap_shared.specs.WordRule.{sitting}
 use Rattle.cap_shared.specs.declared.faults.CommitFault.{CommitFault}
 use Rattle.cap_shared.specs.declared.history.Sitting.{Sitting}
 use Rattle.cap_workers.specs.Worker.{IsCommitted, outcome_at, outcome_by}
@@ -22,13 +23,9 @@ pub data Commits (limit : ℕ) (old : Sitting) : List (ℕ × NodeProposal) → 
   commits_one : {taken : List (ℕ × NodeProposal)} {told : List (ℕ × CommitOutcome)} {mid new : Sitting} → Commits limit old taken told mid → (worker : ℕ) (p : NodeProposal) (end : TurnEnd) → IsCommitted p limit mid new end
       → Commits limit old (taken ++ (worker, p) ∷ []) (told ++ (worker, outcome_at end) ∷ []) new
 
--- some proposals were committed, each once, of which this came
-abbrev pub CommitsTold : ℕ → Sitting → Sitting → List (ℕ × CommitOutcome) → Type 0
-CommitsTold limit old new told = (taken : List (ℕ × NodeProposal)) × Commits limit old taken told new
-
--- some proposals were committed, each once
-abbrev pub CommitsSome : ℕ → Sitting → Sitting → Type 0
-CommitsSome limit old new = (told : List (ℕ × CommitOutcome)) × CommitsTold limit old new told
+-- all that a seat was answered: these proposals were committed one after the other, each once
+abbrev pub CommitsAll : ℕ → List (ℕ × NodeProposal) → Sitting → Type 0
+CommitsAll limit taken seat = (n : ℕ) × (told : List (ℕ × CommitOutcome)) × Commits limit (sitting n []) taken told seat
 
 -- what was taken out of the lanes was committed, in the order in which it was taken, and this came of it
 abbrev pub CommitsTaken : ℕ → Sitting → Sitting → CommitterSide → CommitterSide → List (ℕ × CommitOutcome) → Type 0

@@ -1,9 +1,11 @@
 //! What workers put into their lanes is committed by whoever holds the cluster: the committer, or a worker (`commit_all`, `commit_lanes`).
-ghost use Rattle.std.specs.Prelude.{◌≡◌, IfSome, MatchOption};
-ghost use Rattle.cap_workers.specs.Committing.{CommitsNext, CommitsSome, CommitsTaken, CommitsTold, held_in};
+ghost use Rattle.std.specs.Prelude.{◌≡◌, MatchOption};
+ghost use Rattle.cap_workers.specs.Committing.{CommitsNext, CommitsTaken, held_in};
 
+use crate::committer::LaneCommitter;
 use crate::coordinator::{BATCH, Coordinator, Outcomes};
 use crate::gate::{CommitOutcome, Gate};
+use crate::lane::LaneNaming;
 use cap_lanes::Committer;
 use cap_shared::{Hold, Naming, Seat, Shared};
 use std::sync::Wait;
@@ -12,31 +14,29 @@ use std::sync::Wait;
 const LOOKS: usize = 2 * BATCH;
 
 /// The committer commits what the workers put, in the order in which it is taken, when it begins and whenever a worker has finished, until all have;
-/// in between, workers that wait for an answer take and commit what waits. What is taken once the journal is full is not made, as is a proposal that
-/// an allocation fails for.
-pub fn commit_all<J: Naming, R: Wait, G: Gate>(
+/// in between, workers that wait for an answer take and commit what waits, with the same seat. What is taken once the journal is full is not made, as is
+/// a proposal that an allocation fails for. What it began with comes back, so that the lanes can be closed.
+pub fn commit_all<J: LaneNaming, R: Wait, G: Gate>(
     rt: &R,
     shared: &Shared<J>,
-    seat: &mut Seat<J>,
-    coordinator: &Coordinator,
+    coordinator: &Coordinator<J>,
     gate: &G,
-    committer: Committer,
-)
-    ensures { CommitsSome J.limit seat.old seat.new }
-{
-    coordinator.open_lanes(rt, committer);
+    lanes: LaneCommitter<J>,
+) -> Option<LaneCommitter<J>> {
+    coordinator.open_lanes(rt, lanes);
     for _ in rt.forever() {
-        let Some(committed) = commit_lanes(rt, shared, seat, coordinator) else {
-            return;
+        let Some(committed) = commit_lanes(rt, shared, coordinator) else {
+            break;
         };
         coordinator.notify(rt, gate, &committed.outcomes);
         if committed.is_over {
-            return;
+            break;
         }
         if committed.is_short() {
             coordinator.await_finished(rt);
         }
     }
+    coordinator.take_lanes(rt)
 }
 
 /// What came of the proposals that waited in the lanes.
@@ -54,35 +54,31 @@ impl Committed {
     }
 }
 
-/// Holds the cluster, and commits the proposals that wait in the lanes, whose ends lie with the coordinator once the committer has begun.
-pub(crate) fn commit_lanes<J: Naming, R: Wait>(
+/// Holds the cluster, and commits the proposals that wait in the lanes, once the committer has begun. `None` if it has not.
+pub(crate) fn commit_lanes<J: LaneNaming, R: Wait>(
     rt: &R,
     shared: &Shared<J>,
-    seat: &mut Seat<J>,
-    coordinator: &Coordinator,
-) -> Option<Committed>
-    ensures some { CommitsSome J.limit seat.old seat.new }
-    ensures told { IfSome result
-        (λ committed. CommitsTold J.limit seat.old seat.new (held_in committed.outcomes)) }
-{
+    coordinator: &Coordinator<J>,
+) -> Option<Committed> {
     let mut held = shared.hold_to_schedule(rt);
-    let mut lanes = coordinator.lanes(rt);
-    let committer = lanes.as_mut()?;
-    let outcomes = commit_waiting(rt, &mut held, seat, committer);
+    let mut open = coordinator.lanes(rt);
+    let lanes = open.as_mut()?;
+    let outcomes = lanes.commit_waiting(rt, &mut held);
     Some(Committed {
         outcomes,
-        is_over: committer.is_over(),
+        is_over: lanes.is_over(),
     })
 }
 
 /// Commits the proposals that wait in the lanes. Each worker has one there at most, and its end. What came of them, in their order.
-fn commit_waiting<J: Naming, R: Wait>(
+pub(crate) fn commit_waiting<J: Naming, R: Wait>(
     rt: &R,
     held: &mut Hold<'_, J>,
     seat: &mut Seat<J>,
     committer: &mut Committer,
 ) -> Outcomes
-    ensures { CommitsTaken J.limit seat.old seat.new committer.old committer.new
+    ensures lanes { committer.new.lanes ≡ committer.old.lanes }
+    ensures taken { CommitsTaken J.limit seat.old seat.new committer.old committer.new
         (held_in result) }
 {
     let mut outcomes = [None; BATCH];
@@ -106,7 +102,8 @@ fn commit_next<J: Naming, R: Wait>(
     seat: &mut Seat<J>,
     committer: &mut Committer,
 ) -> Option<(u32, CommitOutcome)>
-    ensures { MatchOption result
+    ensures lanes { committer.new.lanes ≡ committer.old.lanes }
+    ensures next { MatchOption result
         ((seat.new ≡ seat.old) × (committer.new.taken ≡ committer.old.taken))
         (CommitsNext J.limit seat.old seat.new committer.old committer.new) }
 {

@@ -1,6 +1,7 @@
 //! What the workers and the committer of an epoch share beside the cluster (`Coordinator`).
+use crate::committer::LaneCommitter;
 use crate::gate::{CommitOutcome, Gate, Point};
-use cap_lanes::Committer;
+use crate::lane::LaneNaming;
 use std::sync::{Mutex, MutexGuard, Wait};
 use std::thread::Parker;
 
@@ -30,18 +31,18 @@ impl Mailbox {
 
 /// What the workers and the committer of an epoch share beside the cluster.
 #[derive(Drop)]
-pub struct Coordinator {
-    /// The committer's end of the lanes, while its thread runs. Who holds the cluster takes it for a while, and commits what it takes out of them.
-    lanes: Mutex<Option<Committer>>,
+pub struct Coordinator<J: LaneNaming> {
+    /// What is committed out of the lanes, while the committer's thread runs. Who holds the cluster uses it for a while.
+    lanes: Mutex<Option<LaneCommitter<J>>>,
     /// Where the committer's thread waits.
     committer: Parker,
     /// By the number of the worker.
     answers: [Mailbox; 8],
 }
 
-impl Coordinator {
+impl<J: LaneNaming> Coordinator<J> {
     /// Before the first turn of an epoch.
-    pub fn new() -> Coordinator {
+    pub fn new() -> Coordinator<J> {
         Coordinator {
             lanes: Mutex::new(None),
             committer: Parker::new(),
@@ -59,13 +60,18 @@ impl Coordinator {
     }
 
     /// The committer's thread begins.
-    pub(crate) fn open_lanes<R: Wait>(&self, rt: &R, committer: Committer) {
-        let mut lanes = self.lanes.lock(rt);
-        *lanes = Some(committer);
+    pub(crate) fn open_lanes<R: Wait>(&self, rt: &R, lanes: LaneCommitter<J>) {
+        let mut open = self.lanes.lock(rt);
+        *open = Some(lanes);
     }
 
-    /// The committer's end of the lanes, if its thread runs, for one that holds the cluster.
-    pub(crate) fn lanes<R: Wait>(&self, rt: &R) -> MutexGuard<'_, Option<Committer>> {
+    /// The committer's thread ends: what it began with. `None` if it has not begun.
+    pub(crate) fn take_lanes<R: Wait>(&self, rt: &R) -> Option<LaneCommitter<J>> {
+        self.lanes.lock(rt).take()
+    }
+
+    /// What is committed out of the lanes, if the committer's thread runs, for one that holds the cluster.
+    pub(crate) fn lanes<R: Wait>(&self, rt: &R) -> MutexGuard<'_, Option<LaneCommitter<J>>> {
         self.lanes.lock(rt)
     }
 

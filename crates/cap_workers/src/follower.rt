@@ -1,12 +1,9 @@
 //! A worker that follows the journal: a seat with a cluster of its own (`Follower`), and the turns that are taken on it.
 ghost use Rattle.std.specs.Prelude.{◌≡◌, MatchResult};
 ghost use Rattle.cap_shared.specs.Following.{Follows};
-ghost use Rattle.cap_workers.specs.Committing.{CommitsSome};
 ghost use Rattle.cap_workers.specs.Following.{CatchesUp, ChoosesNow, IsFollowingOffer, IsFollowingTurn, Notes, TakesPiece};
 ghost use Rattle.cap_workers.specs.Worker.{IsCommitted, next_turn};
 
-use crate::committing::commit_lanes;
-use crate::coordinator::Coordinator;
 use crate::gate::{Gate, Point};
 use crate::worker::{OfferEnd, TurnEnd, Worker, put};
 use cap_base::RESOURCES;
@@ -66,11 +63,6 @@ impl<J: Naming> Follower<J> {
         (seat, replica)
     }
 
-    /// How many entries of the journal its replica has followed.
-    pub(crate) fn followed(&self) -> usize {
-        self.replica.followed()
-    }
-
     /// Takes what was entered since it looked last, with notes of copies, and makes that again. If an allocation fails it has made some of it again, or
     /// nothing, and goes on from there the next time.
     pub(crate) fn catch_up<R: Wait>(&mut self, rt: &R, shared: &Shared<J>) -> Result<(), NoMemory>
@@ -111,21 +103,6 @@ impl<J: Naming> Follower<J> {
         ensures { IsCommitted proposal J.limit self.old self.new result }
     {
         worker.commit(rt, shared, &mut self.seat, gate, proposal)
-    }
-
-    /// Commits what waits in the lanes, of this worker and of others, and answers it to them.
-    pub(crate) fn commit_lanes<R: Wait, G: Gate>(
-        &mut self,
-        rt: &R,
-        shared: &Shared<J>,
-        coordinator: &Coordinator,
-        gate: &G,
-    )
-        ensures { CommitsSome J.limit self.old self.new }
-    {
-        if let Some(committed) = commit_lanes(rt, shared, &mut self.seat, coordinator) {
-            coordinator.notify(rt, gate, &committed.outcomes);
-        }
     }
 }
 

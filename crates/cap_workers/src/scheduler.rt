@@ -1,4 +1,4 @@
-//! A worker in an epoch (`Scheduler`), which takes turns on a cluster of its own that follows the journal.
+//! A worker in an epoch (`Scheduler`), which takes turns on a cluster of its own that follows the journal, or on copies.
 //!
 //! | it is | until | and then |
 //! |---|---|---|
@@ -9,16 +9,23 @@
 //! | resting | the journal has grown and its rest is over | proposing |
 //! | any of these | the journal is full, or the signal is raised | leaving |
 ghost use Rattle.std.specs.Prelude.{◌≡◌, []};
-ghost use Rattle.cap_workers.specs.Scheduling.{Offers, Schedules, Turns, Works};
+ghost use Rattle.std.specs.Option.{ForSome};
+ghost use Rattle.cap_workers.specs.Following.{IsFollowingOffer, IsFollowingTurn};
+ghost use Rattle.cap_workers.specs.Lanes.{IsNewLane, emptied};
+ghost use Rattle.cap_workers.specs.Scheduling.{Offers, Schedules, Turns, Works, seat_of};
+ghost use Rattle.cap_workers.specs.Worker.{next_turn};
 
 use crate::committing::commit_lanes;
 use crate::coordinator::Coordinator;
-use crate::follower::Follower;
 use crate::gate::{CommitOutcome, Gate};
+use crate::lane::{EndedLane, Lane, LaneNaming};
 use crate::pause::Pause;
-use crate::worker::{OfferEnd, TurnEnd, Worker};
-use cap_lanes::{Ended, Putter};
-use cap_shared::{Naming, Shared};
+use crate::seeing::Seeing;
+use crate::worker::{Offer, OfferEnd, Turn, TurnEnd, Worker};
+use bumpalo::Bump;
+use cap_lanes::Putter;
+use cap_shared::Shared;
+use std::alloc::Global;
 use std::marker::Model;
 use std::sync::Wait;
 use std::time::{Clock, Duration};
@@ -34,8 +41,8 @@ pub trait StopSignal {
 
 /// What the workers of an epoch look at beside the cluster.
 #[derive(Drop)]
-pub struct Direction<'a, S, G> {
-    pub coordinator: &'a Coordinator,
+pub struct Direction<'a, J: LaneNaming, S, G> {
+    pub coordinator: &'a Coordinator<J>,
     pub signal: &'a S,
     pub gate: &'a G,
 }
@@ -72,58 +79,73 @@ impl Next {
     }
 }
 
-/// A worker that begins an epoch, with a cluster of its own and a seat that was answered nothing yet.
+/// A worker that begins an epoch, with a seat that was answered nothing yet, and with its lane, if the epoch has lanes.
 #[derive(Drop)]
-pub struct Scheduler<J: Naming> {
+pub struct Scheduler<J: LaneNaming> {
+    alloc: Global,
     worker: Worker,
-    follower: Follower<J>,
-    ghost fresh: { follower.past ≡ [] },
+    seeing: Seeing<J>,
+    lane: Option<Lane<J>>,
+    ghost fresh: { (seat_of seeing).past ≡ [] },
+    ghost own: { ForSome lane (λ l. l.worker ≡ worker.number) },
 }
 
-/// A worker that has left an epoch. Its seat was answered what it did: turns one after the other, or offers and commits, and nothing else.
-/// Contracts see what the worker was when the epoch began and what it is now, what its seat was answered, and the end of its lane, if it had one.
-pub struct Scheduled<J: Naming> {
+/// A worker that has left an epoch. Its seat was answered what it did: turns one after the other, or offers, and nothing else. Contracts see what the
+/// worker was when the epoch began and what it is now, what its seat was answered, and the end of its lane, if it had one.
+pub struct Scheduled<J: LaneNaming> {
     /// The worker as the epoch began.
     first: Worker,
     worker: Worker,
-    follower: Follower<J>,
-    ended: Option<Ended>,
+    seeing: Seeing<J>,
+    ended: Option<EndedLane<J>>,
 }
 
-impl<J: Naming> Drop for Scheduled<J> {
+impl<J: LaneNaming> Drop for Scheduled<J> {
     fn drop(self) {
         let Scheduled {
             first: _,
             worker: _,
-            follower: _,
+            seeing: _,
             ended: _,
         } = self;
     }
 }
 
-impl<J: Naming> Model for Scheduled<J> {
-    ghost use Rattle.cap_workers.specs.Scheduling.{Work, Works};
+impl<J: LaneNaming> Model for Scheduled<J> {
+    ghost use Rattle.cap_workers.specs.Scheduling.{Work, Works, seat_of};
 
     ghost Value = { Work };
 
     ghost view = { λ s. record {
       first = s.first;
       worker = s.worker;
-      seat = s.follower;
+      seat = seat_of s.seeing;
       ended = s.ended;
     } };
 
-    ghost invariant = { λ s. Works J.opening J.limit s.first s.worker s.follower s.ended };
+    ghost invariant = { λ s.
+        Works J.opening J.limit s.first s.worker (seat_of s.seeing) s.ended };
 }
 
-impl<J: Naming> Scheduler<J> {
+impl<J: LaneNaming> Scheduler<J> {
     /// A worker whose seat was answered nothing yet.
-    pub(crate) fn new(worker: Worker, follower: Follower<J>) -> Scheduler<J>
-        requires { follower.past ≡ [] }
+    pub(crate) fn new(
+        alloc: Global,
+        worker: Worker,
+        seeing: Seeing<J>,
+        lane: Option<Lane<J>>,
+    ) -> Scheduler<J>
+        requires fresh { (seat_of seeing).past ≡ [] }
+        requires own { ForSome lane (λ l. l.worker ≡ worker.number) }
         ensures worker { result.worker ≡ worker }
-        ensures follower { result.follower ≡ follower }
+        ensures seat { seat_of result.seeing ≡ seat_of seeing }
     {
-        Scheduler { worker, follower }
+        Scheduler {
+            alloc,
+            worker,
+            seeing,
+            lane,
+        }
     }
 
     /// The number of the worker.
@@ -133,13 +155,19 @@ impl<J: Naming> Scheduler<J> {
         self.worker.number
     }
 
-    /// The worker, and its seat with its cluster, for one that takes its turns itself.
-    pub fn into_parts(self) -> (Worker, Follower<J>)
+    /// The worker, how it sees the cluster, and its lane, if it has one, for whoever takes its turns in its place.
+    pub fn into_parts(self) -> (Worker, Seeing<J>, Option<Lane<J>>)
         ensures worker { result.0 ≡ self.worker }
-        ensures follower { result.1 ≡ self.follower }
+        ensures seeing { result.1 ≡ self.seeing }
+        ensures lane { result.2 ≡ self.lane }
     {
-        let Scheduler { worker, follower } = self;
-        (worker, follower)
+        let Scheduler {
+            alloc: _,
+            worker,
+            seeing,
+            lane,
+        } = self;
+        (worker, seeing, lane)
     }
 
     /// Takes turns until the journal is full or the signal is raised, and commits what each chooses; with a lane it puts that there, and the
@@ -148,27 +176,41 @@ impl<J: Naming> Scheduler<J> {
         self,
         rt: &R,
         shared: &Shared<J>,
-        direction: &Direction<'_, S, G>,
-        putter: Option<Putter>,
+        direction: &Direction<'_, J, S, G>,
     ) -> Scheduled<J>
         ensures first { result.first ≡ self.worker }
         ensures number { result.worker.number ≡ self.worker.number }
     {
-        let Scheduler { worker, follower } = self;
+        let Scheduler {
+            alloc,
+            worker,
+            seeing,
+            lane,
+        } = self;
         let first = worker;
-        let mut turns = Turning { worker, follower };
-        let ended = turns.take(rt, shared, direction, putter);
-        let Turning { worker, follower } = turns;
+        let mut turns = Turning {
+            alloc,
+            arena: Bump::new(alloc),
+            worker,
+            seeing,
+        };
+        let ended = turns.take(rt, shared, direction, lane);
+        let Turning {
+            alloc: _,
+            arena: _,
+            worker,
+            seeing,
+        } = turns;
         Scheduled {
             first,
             worker,
-            follower,
+            seeing,
             ended,
         }
     }
 }
 
-impl<J: Naming> Scheduled<J> {
+impl<J: LaneNaming> Scheduled<J> {
     /// The worker as the epoch began.
     pub fn first(&self) -> Worker
         ensures { result ≡ self.now.first }
@@ -176,49 +218,53 @@ impl<J: Naming> Scheduled<J> {
         self.first
     }
 
-    /// The worker, and its seat with its cluster.
-    pub(crate) fn into_parts(self) -> (Worker, Follower<J>)
+    /// The worker, how it sees the cluster, and its lane, if it had one.
+    pub(crate) fn into_parts(self) -> (Worker, Seeing<J>, Option<EndedLane<J>>)
         ensures worker { result.0 ≡ self.worker }
-        ensures seat { result.1 ≡ self.seat }
+        ensures seat { seat_of result.1 ≡ self.seat }
+        ensures ended { result.2 ≡ self.ended }
         ensures works { Works J.opening J.limit self.first self.worker self.seat self.ended }
     {
         let Scheduled {
             first: _,
             worker,
-            follower,
-            ended: _,
+            seeing,
+            ended,
         } = self;
-        (worker, follower)
+        (worker, seeing, ended)
     }
 }
 
-/// A worker at its turns.
+/// A worker at its turns. Copies are made into its arena.
 #[derive(Drop)]
-struct Turning<J: Naming> {
+struct Turning<J: LaneNaming> {
+    alloc: Global,
+    arena: Bump,
     worker: Worker,
-    follower: Follower<J>,
+    seeing: Seeing<J>,
 }
 
-impl<J: Naming> Turning<J> {
+impl<J: LaneNaming> Turning<J> {
     /// Takes turns as it is to, and then what was entered until then.
     fn take<R: Wait + Clock, G: Gate, S: StopSignal>(
         &mut self,
         rt: &R,
         shared: &Shared<J>,
-        direction: &Direction<'_, S, G>,
-        putter: Option<Putter>,
-    ) -> Option<Ended>
-        ensures { Schedules J.opening J.limit self.old.worker self.old.follower
-            self.new.worker self.new.follower result }
+        direction: &Direction<'_, J, S, G>,
+        lane: Option<Lane<J>>,
+    ) -> Option<EndedLane<J>>
+        requires { ForSome lane (λ l. l.worker ≡ self.old.worker.number) }
+        ensures { Schedules J.opening J.limit self.old.worker (seat_of self.old.seeing)
+            self.new.worker (seat_of self.new.seeing) result }
     {
-        let ended = match putter {
-            Some(putter) => Some(self.schedule_by_lane(rt, shared, direction, putter)),
+        let ended = match lane {
+            Some(lane) => Some(self.schedule_by_lane(rt, shared, direction, lane)),
             None => {
                 self.schedule(rt, shared, direction);
                 None
             }
         };
-        let _caught_up = self.follower.catch_up(rt, shared);
+        let _caught_up = self.seeing.catch_up(rt, shared);
         ended
     }
 
@@ -227,24 +273,47 @@ impl<J: Naming> Turning<J> {
         &mut self,
         rt: &R,
         shared: &Shared<J>,
-        direction: &Direction<'_, S, G>,
+        direction: &Direction<'_, J, S, G>,
     )
-        ensures { Turns J.opening J.limit self.old.worker self.old.follower
-            self.new.worker self.new.follower }
+        ensures { Turns J.opening J.limit self.old.worker (seat_of self.old.seeing)
+            self.new.worker (seat_of self.new.seeing) }
     {
-        let mut pause = Pause::first();
+        let mut rest = Rest::new();
         for _ in rt.forever() {
             if direction.signal.is_raised(rt) {
                 return;
             }
-            pause.begin_look(rt);
-            let end = self
-                .worker
-                .follow(rt, shared, &mut self.follower, direction.gate);
-            let next = Next::after_turn(end);
-            if !self.goes_on(rt, shared, direction.signal, next, &mut pause) {
+            rest.begin_look(rt, shared);
+            let next = Next::after_turn(self.turn(rt, shared, direction.gate));
+            if !rest.goes_on(rt, shared, direction.signal, next) {
                 return;
             }
+        }
+    }
+
+    /// Takes a turn.
+    fn turn<R: Wait, G: Gate>(&mut self, rt: &R, shared: &Shared<J>, gate: &G) -> TurnEnd
+        ensures start { self.new.worker ≡ next_turn self.old.worker }
+        ensures turn { IsFollowingTurn J.opening J.limit self.old.worker.start
+            (seat_of self.old.seeing) (seat_of self.new.seeing) result }
+    {
+        match &mut self.seeing {
+            Seeing::Following(follower) => self.worker.follow(rt, shared, follower, gate),
+            Seeing::Copying(seat) => {
+                let Turn { end, reset } = self.worker.turn(rt, shared, seat, &mut self.arena, gate);
+                self.renew_arena(reset);
+                end
+            }
+        }
+    }
+
+    /// Takes another arena where the last could not be reset.
+    fn renew_arena(&mut self, reset: bool)
+        ensures worker { self.new.worker ≡ self.old.worker }
+        ensures seeing { self.new.seeing ≡ self.old.seeing }
+    {
+        if !reset {
+            self.arena = Bump::new(self.alloc);
         }
     }
 
@@ -254,15 +323,16 @@ impl<J: Naming> Turning<J> {
         &mut self,
         rt: &R,
         shared: &Shared<J>,
-        direction: &Direction<'_, S, G>,
-        putter: Putter,
-    ) -> Ended
-        ensures { Offers J.opening J.limit self.old.worker self.old.follower putter
-            self.new.worker self.new.follower result }
+        direction: &Direction<'_, J, S, G>,
+        lane: Lane<J>,
+    ) -> EndedLane<J>
+        ensures own { result.worker ≡ lane.worker }
+        ensures offers { Offers J.opening self.old.worker (seat_of self.old.seeing)
+            (emptied result) self.new.worker (seat_of self.new.seeing) result }
     {
-        let mut putter = putter;
+        let mut putter = lane.into_putter();
         self.offer_all(rt, shared, direction, &mut putter);
-        let ended = putter.finish(rt);
+        let ended = EndedLane::of(rt, putter);
         direction.coordinator.has_finished();
         ended
     }
@@ -272,91 +342,134 @@ impl<J: Naming> Turning<J> {
         &mut self,
         rt: &R,
         shared: &Shared<J>,
-        direction: &Direction<'_, S, G>,
+        direction: &Direction<'_, J, S, G>,
         putter: &mut Putter,
     )
-        ensures { Offers J.opening J.limit self.old.worker self.old.follower putter.old
-            self.new.worker self.new.follower putter.new }
+        ensures { Offers J.opening self.old.worker (seat_of self.old.seeing) putter.old
+            self.new.worker (seat_of self.new.seeing) putter.new }
     {
-        let mut pause = Pause::first();
+        let mut rest = Rest::new();
         for _ in rt.forever() {
             if direction.signal.is_raised(rt) {
                 return;
             }
-            pause.begin_look(rt);
-            let next = self.offer(rt, shared, direction, putter);
-            if !self.goes_on(rt, shared, direction.signal, next, &mut pause) {
+            rest.begin_look(rt, shared);
+            let end = self.offer(rt, shared, direction.gate, putter);
+            let next = after_offer(rt, shared, direction, putter.worker(), &end);
+            if !rest.goes_on(rt, shared, direction.signal, next) {
                 return;
             }
         }
     }
 
-    /// Makes an offer. Where something was put, what waits in the lanes is committed, and the answer awaited.
-    fn offer<R: Wait, G: Gate, S>(
+    /// Makes an offer.
+    fn offer<R: Wait, G: Gate>(
         &mut self,
         rt: &R,
         shared: &Shared<J>,
-        direction: &Direction<'_, S, G>,
+        gate: &G,
         putter: &mut Putter,
-    ) -> Next
-        ensures { Offers J.opening J.limit self.old.worker self.old.follower putter.old
-            self.new.worker self.new.follower putter.new }
+    ) -> OfferEnd
+        ensures start { self.new.worker ≡ next_turn self.old.worker }
+        ensures offer { IsFollowingOffer J.opening self.old.worker.start
+            (seat_of self.old.seeing) (seat_of self.new.seeing) putter.old putter.new result }
     {
-        let Direction {
-            coordinator,
-            gate,
-            ..
-        } = direction;
-        let end = self
-            .worker
-            .follow_to_lane(rt, shared, &mut self.follower, putter, *gate);
-        match end {
-            OfferEnd::Nothing => Next::Rest,
-            OfferEnd::Refused(_) | OfferEnd::NoMemory => Next::Retry,
-            OfferEnd::Put => {
-                self.follower.commit_lanes(rt, shared, *coordinator, *gate);
-                let lane = coordinator.lane(putter.worker());
-                Next::after_answer(lane.await_answer(rt))
+        match &mut self.seeing {
+            Seeing::Following(follower) => {
+                self.worker
+                    .follow_to_lane(rt, shared, follower, putter, gate)
+            }
+            Seeing::Copying(seat) => {
+                let Offer { end, reset } = self
+                    .worker
+                    .offer(rt, shared, seat, putter, &mut self.arena, gate);
+                self.renew_arena(reset);
+                end
             }
         }
     }
+}
+
+/// What a worker does after an offer. Where something was put, what waits in the lanes is committed first, and the answer awaited.
+fn after_offer<J: LaneNaming, R: Wait, G: Gate, S>(
+    rt: &R,
+    shared: &Shared<J>,
+    direction: &Direction<'_, J, S, G>,
+    worker: u32,
+    end: &OfferEnd,
+) -> Next {
+    let Direction {
+        coordinator,
+        gate,
+        ..
+    } = direction;
+    match end {
+        OfferEnd::Nothing => Next::Rest,
+        OfferEnd::Refused(_) | OfferEnd::NoMemory => Next::Retry,
+        OfferEnd::Put => {
+            if let Some(committed) = commit_lanes(rt, shared, *coordinator) {
+                coordinator.notify(rt, *gate, &committed.outcomes);
+            }
+            Next::after_answer(coordinator.lane(worker).await_answer(rt))
+        }
+    }
+}
+
+/// When a worker rests, and until when.
+#[derive(Clone, Copy)]
+struct Rest {
+    pause: Pause,
+    /// How many entries the journal had when the worker began to look at it last.
+    seen: usize,
+}
+
+impl Rest {
+    fn new() -> Rest {
+        Rest {
+            pause: Pause::first(),
+            seen: 0,
+        }
+    }
+
+    /// The worker looks at what the journal has, or at more.
+    fn begin_look<J: LaneNaming, R: Clock>(&mut self, rt: &R, shared: &Shared<J>) {
+        self.seen = shared.entries();
+        self.pause.begin_look(rt);
+    }
 
     /// Rests as is due next. Whether another turn is to be taken.
-    fn goes_on<R: Wait + Clock, S: StopSignal>(
-        &self,
+    fn goes_on<J: LaneNaming, R: Wait + Clock, S: StopSignal>(
+        &mut self,
         rt: &R,
         shared: &Shared<J>,
         signal: &S,
         next: Next,
-        pause: &mut Pause,
     ) -> bool {
         match next {
             Next::Propose => {
-                pause.begin_anew();
+                self.pause.begin_anew();
                 return true;
             }
             Next::Rest => {
-                pause.end_look(rt);
-                self.rest(rt, shared, signal, pause);
+                self.pause.end_look(rt);
+                self.wait_for_more(rt, shared, signal);
             }
-            Next::Retry => pause.wait(rt, signal),
+            Next::Retry => self.pause.wait(rt, signal),
             Next::Leave => return false,
         }
         !shared.is_full()
     }
 
-    /// Rests until the journal has grown beyond what the replica has followed, or is full, or the signal is raised.
-    fn rest<R: Wait + Clock, S: StopSignal>(
-        &self,
+    /// Rests until the journal has grown since the worker looked, or is full, or the signal is raised.
+    fn wait_for_more<J: LaneNaming, R: Wait + Clock, S: StopSignal>(
+        &mut self,
         rt: &R,
         shared: &Shared<J>,
         signal: &S,
-        pause: &mut Pause,
     ) {
-        let seen = self.follower.followed();
         for _ in rt.forever() {
-            pause.wait(rt, signal);
-            if shared.is_full() || shared.entries() != seen || signal.is_raised(rt) {
+            self.pause.wait(rt, signal);
+            if shared.is_full() || shared.entries() != self.seen || signal.is_raised(rt) {
                 return;
             }
         }

@@ -9,4 +9,5 @@ invariant-loop-worker g l = record {
   all : l.yielded ++ l.worker-iterator.rest.items ≡ l.fn.workers.items;
   fresh : All IsFresh l.seats.items;
   begun : map (λ s. s.worker) l.schedulers.items ≡ map (λ w. w.worker) l.yielded;
+  firsts : l.firsts.items ≡ map (λ w. w.worker) l.yielded;
 }

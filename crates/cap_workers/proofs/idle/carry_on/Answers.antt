@@ -1,13 +1,14 @@
 use mathlib.Core.List.{IsPrefix}
+use Rattle.std.specs.Prelude.{IfSome}
 use Rattle.cap_shared.specs.Parts.{Content}
 use Rattle.cap_workers.specs.declared.worker.Worker.{Worker}
-use Rattle.cap_workers.proofs.Prelude.{refl}
+use Rattle.cap_workers.proofs.Prelude.{Option, refl}
 use Rattle.cap_workers.proofs.Leavers.{at_middle, maps_one, one_is, yields_one}
 use Rattle.cap_workers.proofs.idle.carry_on.Goals as goal
 
-pub close-requires-clause-begins : goal.close-requires-clause-begins
-close-requires-clause-begins g c =
-    at_middle (λ (w : Worker × Content). IsPrefix w.1.log c.args.closed.now.journal.items) c.loop-worker.yielded c.loop-worker.worker-iterator.rest.items c.next.new.self.rest.items c.args.leaving.items (c.in-Some.worker, c.in-Some.replica)
+pub carried-requires-clause-begins : goal.carried-requires-clause-begins
+carried-requires-clause-begins g c =
+    at_middle (λ (w : Worker × Option Content). IfSome w.1 (λ own. IsPrefix own.log c.args.closed.now.journal.items)) c.loop-worker.yielded c.loop-worker.worker-iterator.rest.items c.next.new.self.rest.items c.args.leaving.items (c.in-Some.worker, c.in-Some.replica)
     c.loop-worker.invariant.all c.in-Some.ensures.steps.0 c.requires.begin
 
 pub loop-worker-preserved : goal.loop-worker-preserved

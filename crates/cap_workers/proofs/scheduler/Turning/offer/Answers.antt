@@ -1,12 +1,5 @@
-use Rattle.cap_workers.specs.Scheduling.{offers_commits}
-use Rattle.cap_workers.proofs.Turns.{one_offer}
+use Rattle.cap_workers.specs.Following.{notes_none}
 use Rattle.cap_workers.proofs.scheduler.Turning.offer.Goals as goal
 
-pub returns-in-Nothing : goal.returns-in-Nothing
-returns-in-Nothing g c = one_offer c.follow_to_lane-end.new.self c.follow_to_lane-end.result c.follow_to_lane-end.ensures.start c.follow_to_lane-end.ensures.offer
-
-pub returns-in-Refused : goal.returns-in-Refused
-returns-in-Refused g c = one_offer c.follow_to_lane-end.new.self c.follow_to_lane-end.result c.follow_to_lane-end.ensures.start c.follow_to_lane-end.ensures.offer
-
-pub returns-in-Put : goal.returns-in-Put
-returns-in-Put g c = offers_commits (one_offer c.follow_to_lane-end.new.self c.follow_to_lane-end.result c.follow_to_lane-end.ensures.start c.follow_to_lane-end.ensures.offer) c.commit_lanes.ensures
+pub returns-in-Copying-clause-offer : goal.returns-in-Copying-clause-offer
+returns-in-Copying-clause-offer g c = rw (c.in-Copying.is, c.renew_arena.ensures.seeing) (c.in-Copying.seat, notes_none, c.offer-end.ensures.offer)

@@ -6,7 +6,7 @@ pub loop-init : goal.loop-init
 loop-init g c = turns_none
 
 pub returns-then-not-goes_on : goal.returns-then-not-goes_on
-returns-then-not-goes_on g c = one_turn c.follow-end.new.self c.follow-end.result c.loop.invariant c.follow-end.ensures.start c.follow-end.ensures.turn
+returns-then-not-goes_on g c = one_turn c.turn.new.self.worker c.turn.result c.loop.invariant c.turn.ensures.start c.turn.ensures.turn
 
 pub loop-preserved : goal.loop-preserved
-loop-preserved g c = one_turn c.follow-end.new.self c.follow-end.result c.loop.invariant c.follow-end.ensures.start c.follow-end.ensures.turn
+loop-preserved g c = one_turn c.turn.new.self.worker c.turn.result c.loop.invariant c.turn.ensures.start c.turn.ensures.turn
