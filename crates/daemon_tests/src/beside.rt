@@ -2,7 +2,7 @@
 use crate::client::{BAD_LENGTH, connect, is_answered, is_taken, receive, send};
 use crate::gates::GateOf;
 use crate::side::{ONE_QUEUE, Outcome, closed_by, listen, served};
-use cap_server::Sizes;
+use cap_server::{Scheduling, Sizes};
 use cap_testing::Mark;
 use std::alloc::Global;
 use std::io::{self, Input, StdinLock};
@@ -202,6 +202,7 @@ fn beside_both<
 >(rt: &H, alloc: Global, trouble: Trouble) -> Option<Outcome> {
     let sizes = Sizes {
         workers: 1,
+        scheduling: Scheduling::Follow,
         connections: 2,
         journal: 4,
         lanes: Some(64),

@@ -3,7 +3,7 @@
 use crate::client::{ASK, BAD_LENGTH, ask_last, connect, is_answered, is_taken};
 use crate::gates::GateOf;
 use crate::side::{Client, ONE_QUEUE, closed};
-use cap_server::Sizes;
+use cap_server::{Scheduling, Sizes};
 use std::alloc::Global;
 use std::io;
 use std::net::{Net, TcpListener, TcpStream};
@@ -89,6 +89,7 @@ impl Client for Hostile {
 fn others_go_on(rt: HostRuntime) {
     let sizes = Sizes {
         workers: 1,
+        scheduling: Scheduling::Follow,
         connections: 4,
         journal: 1000,
         lanes: Some(64),

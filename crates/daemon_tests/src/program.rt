@@ -63,8 +63,10 @@ const LANES: usize = 13;
 
 const DRAIN: usize = 15;
 
+const SCHEDULING: usize = 17;
+
 /// The words of a daemon without a settings file. No port is bound before that file is read.
-const WORDS: [&str; 16] = [
+const WORDS: [&str; 18] = [
     "capsched",
     "serve",
     "--port",
@@ -81,10 +83,12 @@ const WORDS: [&str; 16] = [
     "64",
     "--drain",
     "10",
+    "--scheduling",
+    "follow",
 ];
 
 /// The same with another value in one place.
-fn with_value<'a>(words: &[&'a str; 16], place: usize, value: &'a str) -> [&'a str; 16] {
+fn with_value<'a>(words: &[&'a str; 18], place: usize, value: &'a str) -> [&'a str; 18] {
     let mut words = *words;
     if let Some(word) = words.get_mut(place) {
         *word = value;
@@ -93,7 +97,10 @@ fn with_value<'a>(words: &[&'a str; 16], place: usize, value: &'a str) -> [&'a s
 }
 
 /// Each option at its bounds and past them, and whether that is taken.
-static OPTIONS: [(usize, &str, bool); 25] = [
+static OPTIONS: [(usize, &str, bool); 28] = [
+    (SCHEDULING, "follow", true),
+    (SCHEDULING, "copy", true),
+    (SCHEDULING, "both", false),
     (PORT, "0", false),
     (PORT, "1", true),
     (PORT, "65535", true),

@@ -2,7 +2,7 @@
 use crate::client::{connect, is_answered, send};
 use crate::gates::{GateOf, HoldingOnce};
 use crate::side::{Client, ends};
-use cap_server::Sizes;
+use cap_server::{Scheduling, Sizes};
 use cap_testing::{Call, Mark, frame};
 use memory_testing::Hoard;
 use std::alloc::Global;
@@ -92,6 +92,7 @@ fn served_without_memory(rt: HostRuntime) {
     };
     let sizes = Sizes {
         workers: 1,
+        scheduling: Scheduling::Follow,
         connections: 2,
         journal: 4096,
         lanes: None,
@@ -145,6 +146,7 @@ impl Client for Filling {
 fn no_next_epoch(rt: HostRuntime) {
     let sizes = Sizes {
         workers: 1,
+        scheduling: Scheduling::Follow,
         connections: 1,
         journal: 4,
         lanes: None,

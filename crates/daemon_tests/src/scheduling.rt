@@ -3,7 +3,7 @@
 use crate::client::{call, connect};
 use crate::gates::{Committing, GateOf, OwnLanes};
 use crate::side::{Client, closed};
-use cap_server::Sizes;
+use cap_server::{Scheduling, Sizes};
 use cap_testing::{Call, TWO_QUEUES, WantedContainers};
 use cap_workers::Tally;
 use std::alloc::Global;
@@ -114,9 +114,10 @@ fn scheduled<
         + Eprint
         + Input<Reader = StdinLock<'static>>
         + Sync,
->(rt: &H, alloc: Global, workers: u32, lanes: Option<usize>) -> bool {
+>(rt: &H, alloc: Global, workers: u32, scheduling: Scheduling, lanes: Option<usize>) -> bool {
     let sizes = Sizes {
         workers,
+        scheduling,
         connections: 1,
         journal: 4096,
         lanes,
@@ -133,14 +134,19 @@ fn scheduled<
     tally.made() == 10 && ended == Some((1, made))
 }
 
+/// Both ways in which workers see the cluster.
+const BOTH: [Scheduling; 2] = [Scheduling::Follow, Scheduling::Copy];
+
 /// By itself, and through a committer: seven of the lanes have no worker then, whose ends take seven of the eight places, or all have one.
 #[test]
 fn workers_schedule(rt: HostRuntime) {
-    for &(workers, lanes) in &[(1, None), (1, Some(8)), (8, Some(8))] {
-        assert!(rt;
-            scheduled(&rt, rt.alloc(), workers, lanes),
-            "{workers} {lanes:?}"
-        );
+    for &scheduling in &BOTH {
+        for &(workers, lanes) in &[(1, None), (1, Some(8)), (8, Some(8))] {
+            assert!(rt;
+                scheduled(&rt, rt.alloc(), workers, scheduling, lanes),
+                "{workers} {scheduling:?} {lanes:?}"
+            );
+        }
     }
 }
 
@@ -167,19 +173,22 @@ impl Client for Witness<'_> {
 
 #[test]
 fn each_proposal_is_committed(rt: HostRuntime) {
-    let sizes = Sizes {
-        workers: 2,
-        connections: 1,
-        journal: 5,
-        lanes: Some(64),
-        drain: None,
-        stats: None,
-    };
-    let gate = Committing::new();
-    let client = Witness { gate: &gate };
-    let held = GateOf::Committing(&gate);
-    let ended = closed(&rt, rt.alloc(), TWO_QUEUES, &sizes, held, &client);
-    assert!(rt; ended.is_some());
+    for &scheduling in &BOTH {
+        let sizes = Sizes {
+            workers: 2,
+            scheduling,
+            connections: 1,
+            journal: 5,
+            lanes: Some(64),
+            drain: None,
+            stats: None,
+        };
+        let gate = Committing::new();
+        let client = Witness { gate: &gate };
+        let held = GateOf::Committing(&gate);
+        let ended = closed(&rt, rt.alloc(), TWO_QUEUES, &sizes, held, &client);
+        assert!(rt; ended.is_some(), "{scheduling:?}");
+    }
 }
 
 /// A master whose calls fill the first journal once worker 1 has begun a turn, and whose ask comes in the second epoch, in which worker 0 alone goes
@@ -205,24 +214,27 @@ impl Client for LateMaster<'_> {
 
 #[test]
 fn workers_keep_their_lanes_from_epoch_to_epoch(rt: HostRuntime) {
-    let sizes = Sizes {
-        workers: 2,
-        connections: 1,
-        journal: 4,
-        lanes: Some(64),
-        drain: None,
-        stats: None,
-    };
-    let gate = OwnLanes::new();
-    let client = LateMaster {
-        gate: &gate,
-        master: Master {
-            calls: AtomicU64::new(0),
-        },
-    };
-    let held = GateOf::OwnLanes(&gate);
-    let ended = closed(&rt, rt.alloc(), TWO_QUEUES, &sizes, held, &client);
-    assert!(rt; ended.is_some());
-    assert!(rt; gate.answered.is_reached(1));
-    assert!(rt; !gate.missed.is_reached(1));
+    for &scheduling in &BOTH {
+        let sizes = Sizes {
+            workers: 2,
+            scheduling,
+            connections: 1,
+            journal: 4,
+            lanes: Some(64),
+            drain: None,
+            stats: None,
+        };
+        let gate = OwnLanes::new();
+        let client = LateMaster {
+            gate: &gate,
+            master: Master {
+                calls: AtomicU64::new(0),
+            },
+        };
+        let held = GateOf::OwnLanes(&gate);
+        let ended = closed(&rt, rt.alloc(), TWO_QUEUES, &sizes, held, &client);
+        assert!(rt; ended.is_some(), "{scheduling:?}");
+        assert!(rt; gate.answered.is_reached(1), "{scheduling:?}");
+        assert!(rt; !gate.missed.is_reached(1), "{scheduling:?}");
+    }
 }

@@ -5,7 +5,7 @@ use crate::client::{
 };
 use crate::gates::{GateOf, Holding, Meeting};
 use crate::side::{Client, ends};
-use cap_server::Sizes;
+use cap_server::{Scheduling, Sizes};
 use cap_testing::{Call, Mark};
 use std::alloc::Global;
 use std::io;
@@ -132,6 +132,7 @@ fn connections_are_answered(rt: HostRuntime) {
     ] {
         let sizes = Sizes {
             workers: 1,
+            scheduling: Scheduling::Follow,
             connections,
             journal,
             lanes,
@@ -158,12 +159,18 @@ impl Client for Witness<'_> {
     }
 }
 
-/// By themselves, and beside a committer.
+/// By themselves, and beside a committer, on clusters of their own and on copies.
 #[test]
 fn two_workers_propose_at_once(rt: HostRuntime) {
-    for &lanes in &[None, Some(64)] {
+    for &(scheduling, lanes) in &[
+        (Scheduling::Follow, None),
+        (Scheduling::Follow, Some(64)),
+        (Scheduling::Copy, None),
+        (Scheduling::Copy, Some(64)),
+    ] {
         let sizes = Sizes {
             workers: 2,
+            scheduling,
             connections: 1,
             journal: 4096,
             lanes,
@@ -179,7 +186,7 @@ fn two_workers_propose_at_once(rt: HostRuntime) {
         let want = (0, "closed epochs=1 entries=1");
         let held = GateOf::Meeting(&gate);
         let is_right = ends(&rt, rt.alloc(), &sizes, held, &client, want);
-        assert!(rt; is_right, "{lanes:?}");
+        assert!(rt; is_right, "{scheduling:?} {lanes:?}");
     }
 }
 
@@ -232,12 +239,15 @@ impl Client for BesideHeld<'_> {
 
 #[test]
 fn calls_are_answered_while_a_worker_is_held(rt: HostRuntime) {
-    for &(journal, is_ahead, line) in &[
-        (4096, false, "closed epochs=1 entries=2"),
-        (4, true, "closed epochs=2 entries=6"),
+    for &(scheduling, journal, is_ahead, line) in &[
+        (Scheduling::Follow, 4096, false, "closed epochs=1 entries=2"),
+        (Scheduling::Follow, 4, true, "closed epochs=2 entries=6"),
+        (Scheduling::Copy, 4096, false, "closed epochs=1 entries=2"),
+        (Scheduling::Copy, 4, true, "closed epochs=2 entries=6"),
     ] {
         let sizes = Sizes {
             workers: 1,
+            scheduling,
             connections: 1,
             journal,
             lanes: None,
@@ -254,6 +264,6 @@ fn calls_are_answered_while_a_worker_is_held(rt: HostRuntime) {
         };
         let held = GateOf::Holding(&gate);
         let is_right = ends(&rt, rt.alloc(), &sizes, held, &client, (0, line));
-        assert!(rt; is_right, "{journal}");
+        assert!(rt; is_right, "{scheduling:?} {journal}");
     }
 }

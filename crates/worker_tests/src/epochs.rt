@@ -6,9 +6,11 @@ use cap_commit::Cluster;
 use cap_config::read_config;
 use cap_messages::read_request;
 use cap_model::ReplyWith;
-use cap_shared::{Blank, Naming, Seat, Shared};
+use cap_shared::{Blank, Seat, Shared};
 use cap_testing::{Call, TWO_QUEUES, WantedContainers, frame};
-use cap_workers::{IdleWorker, Scheduler, Worker, begin_epoch};
+use cap_workers::{
+    BegunEpoch, Follower, IdleWorker, LaneNaming, Scheduler, Seeing, Worker, begin_epoch,
+};
 use std::alloc::Global;
 use std::marker::Brand;
 use std::sync::Wait;
@@ -53,7 +55,7 @@ pub trait Play {
     type Seen;
 
     /// With worker 0, and a seat to make calls with. `None` if something failed that must not.
-    fn play<J: Naming, H: Wait + Clock>(
+    fn play<J: LaneNaming, H: Wait + Clock>(
         &self,
         rt: &H,
         alloc: Global,
@@ -64,7 +66,7 @@ pub trait Play {
 }
 
 /// Makes calls, none of which is refused.
-pub fn call_all<J: Naming, H: Wait>(
+pub fn call_all<J: LaneNaming, H: Wait>(
     rt: &H,
     alloc: Global,
     shared: &Shared<J>,
@@ -92,7 +94,7 @@ pub struct Opening {
 
 /// An epoch that has begun.
 #[derive(Drop)]
-pub struct Begun<J: Naming> {
+pub struct Begun<J: LaneNaming> {
     pub shared: Shared<J>,
     pub seats: Vec<Seat<J>>,
     pub own: Scheduler<J>,
@@ -102,7 +104,8 @@ pub struct Begun<J: Naming> {
 pub fn open_for(alloc: Global, callers: u32) -> Option<Opening>
     requires { callers ≤ 255 }
     ensures seats { IfSome result (λ o. o.blank.1 ≡ callers + 1) }
-    ensures same { IfSome result (λ o. o.worker.cluster.flat ≡ o.cluster.flat) }
+    ensures same { IfSome result (λ o.
+        IfSome o.worker.cluster (λ own. own.flat ≡ o.cluster.flat)) }
 {
     let config = read_config(alloc, TWO_QUEUES).ok()?;
     let Ok(cluster) = Cluster::from_config(alloc, &config) else {
@@ -116,7 +119,7 @@ pub fn open_for(alloc: Global, callers: u32) -> Option<Opening>
     };
     let worker = IdleWorker {
         worker: Worker::new(0),
-        cluster: same,
+        cluster: Some(same),
     };
     Some(Opening {
         blank,
@@ -126,10 +129,15 @@ pub fn open_for(alloc: Global, callers: u32) -> Option<Opening>
 }
 
 /// Begins an epoch with a journal of so many entries at most. `None` if an allocation fails.
-pub fn begin<J: Naming>(alloc: Global, opening: Opening, limit: usize) -> Option<Begun<J>>
+pub fn begin<J: LaneNaming, H: Wait>(
+    rt: &H,
+    alloc: Global,
+    opening: Opening,
+    limit: usize,
+) -> Option<Begun<J>>
     requires named { opening.blank.0 ≡ J.table }
     requires opening { opening.cluster.flat ≡ J.opening }
-    requires same { opening.worker.cluster.flat ≡ J.opening }
+    requires same { IfSome opening.worker.cluster (λ own. own.flat ≡ J.opening) }
     requires limit { limit ≡ J.limit }
     requires seats { opening.blank.1 ≡ J.seats }
     requires some { (1 ≤ J.limit) × (J.limit ≤ 1000000) }
@@ -146,11 +154,21 @@ pub fn begin<J: Naming>(alloc: Global, opening: Opening, limit: usize) -> Option
     let Ok(workers) = Vec::from_array(alloc, [worker]) else {
         return None;
     };
-    let Ok(mut begun) = begin_epoch(alloc, workers, &mut seats) else {
+    let begun = begin_epoch(rt, alloc, workers, &mut seats, None);
+    let Ok(BegunEpoch { mut schedulers, .. }) = begun else {
         return None;
     };
-    let own = begun.pop()?;
+    let own = schedulers.pop()?;
     Some(Begun { shared, seats, own })
+}
+
+/// The worker, and its seat with its cluster. `None` if it has none.
+pub fn following<J: LaneNaming>(own: Scheduler<J>) -> Option<(Worker, Follower<J>)> {
+    let (worker, seeing, _lane) = own.into_parts();
+    match seeing {
+        Seeing::Following(follower) => Some((worker, follower)),
+        Seeing::Copying(_) => None,
+    }
 }
 
 /// Plays in an epoch with one caller.
@@ -160,7 +178,7 @@ pub fn play_in<H: Wait + Clock, P: Play>(rt: &H, alloc: Global, play: &P) -> Opt
 }
 
 /// The same under a name.
-fn play_under_name<J: Naming, H: Wait + Clock, P: Play>(
+fn play_under_name<J: LaneNaming, H: Wait + Clock, P: Play>(
     rt: &H,
     alloc: Global,
     opening: Opening,
@@ -168,7 +186,7 @@ fn play_under_name<J: Naming, H: Wait + Clock, P: Play>(
 ) -> Option<P::Seen>
     requires named { opening.blank.0 ≡ J.table }
     requires opening { opening.cluster.flat ≡ J.opening }
-    requires same { opening.worker.cluster.flat ≡ J.opening }
+    requires same { IfSome opening.worker.cluster (λ own. own.flat ≡ J.opening) }
     requires limit { 20 ≡ J.limit }
     requires seats { opening.blank.1 ≡ J.seats }
     requires few { 2 ≡ J.seats }
@@ -177,7 +195,7 @@ fn play_under_name<J: Naming, H: Wait + Clock, P: Play>(
         shared,
         mut seats,
         own,
-    } = begin::<J>(alloc, opening, LIMIT)?;
+    } = begin::<J, H>(rt, alloc, opening, LIMIT)?;
     let mut caller = seats.pop()?;
     play.play(rt, alloc, &shared, &mut caller, own)
 }

@@ -1,9 +1,9 @@
 //! A worker that follows the journal: what it grants, and that it sees what others enter and what it was granted itself.
-use crate::epochs::{ONE_MORE, Play, THREE_ASKED, call_all, play_in};
+use crate::epochs::{ONE_MORE, Play, THREE_ASKED, call_all, following, play_in};
 use cap_lanes::{Committer, Putter, lanes};
 use cap_model::Event;
-use cap_shared::{Naming, Seat, Shared};
-use cap_workers::{Follower, OfferEnd, OpenGate, Scheduler, TurnEnd, Worker};
+use cap_shared::{Seat, Shared};
+use cap_workers::{Follower, LaneNaming, OfferEnd, OpenGate, Scheduler, TurnEnd, Worker};
 use std::alloc::Global;
 use std::sync::Wait;
 use std::test::*;
@@ -36,7 +36,7 @@ struct SixTurns;
 impl Play for SixTurns {
     type Seen = Vec<Came>;
 
-    fn play<J: Naming, H: Wait + Clock>(
+    fn play<J: LaneNaming, H: Wait + Clock>(
         &self,
         rt: &H,
         alloc: Global,
@@ -44,7 +44,7 @@ impl Play for SixTurns {
         caller: &mut Seat<J>,
         own: Scheduler<J>,
     ) -> Option<Vec<Came>> {
-        let (mut worker, mut follower) = own.into_parts();
+        let (mut worker, mut follower) = following(own)?;
         let mut came = Vec::new(alloc);
         call_all(rt, alloc, shared, caller, &THREE_ASKED)?;
         for turn in 0..6 {
@@ -89,7 +89,7 @@ fn new_lanes(alloc: Global) -> Option<(Committer, Vec<Putter>)> {
 }
 
 /// What came of an offer: the node of what lies in the lane.
-fn offered<J: Naming, H: Wait>(
+fn offered<J: LaneNaming, H: Wait>(
     rt: &H,
     shared: &Shared<J>,
     worker: &mut Worker,
@@ -110,7 +110,7 @@ fn offered<J: Naming, H: Wait>(
 impl Play for ThreeOffers {
     type Seen = [Option<u64>; 3];
 
-    fn play<J: Naming, H: Wait + Clock>(
+    fn play<J: LaneNaming, H: Wait + Clock>(
         &self,
         rt: &H,
         alloc: Global,
@@ -119,7 +119,7 @@ impl Play for ThreeOffers {
         own: Scheduler<J>,
     ) -> Option<[Option<u64>; 3]> {
         let (mut committer, mut putters) = new_lanes(alloc)?;
-        let (mut worker, mut follower) = own.into_parts();
+        let (mut worker, mut follower) = following(own)?;
         let putter = putters.first_mut()?;
         let mut seen = [None; 3];
         for place in 0..3 {

@@ -1,15 +1,15 @@
 //! A worker that follows the journal and one that copies the cluster take turns on the same entries: they choose the same.
-ghost use Rattle.std.specs.Prelude.{◌≡◌};
+ghost use Rattle.std.specs.Prelude.{◌≡◌, IfSome};
 
-use crate::epochs::{Begun, Opening, begin, open_for};
+use crate::epochs::{Begun, Opening, begin, following, open_for};
 use bumpalo::Bump;
 use cap_base::RESOURCES;
 use cap_lanes::{Committer, Putter, lanes};
 use cap_messages::read_request;
 use cap_model::{Event, Proposal, Verdict};
-use cap_shared::{Naming, Seat, Shared};
+use cap_shared::{Seat, Shared};
 use cap_testing::RandomClient;
-use cap_workers::{Follower, OfferEnd, OpenGate, Worker};
+use cap_workers::{Follower, LaneNaming, OfferEnd, OpenGate, Worker};
 use memory_testing::Hoard;
 use std::alloc::Global;
 use std::marker::Brand;
@@ -17,8 +17,8 @@ use std::sync::Wait;
 use std::test::*;
 use std::time::Clock;
 
-/// How many entries the journal has at most.
-const LIMIT: usize = 1_000_000;
+/// How many entries the journal has at most, three in each turn: few enough for the room that a hoard leaves.
+const LIMIT: usize = 3_000;
 
 /// How many turns each of the two takes.
 const TURNS: u32 = 1000;
@@ -35,7 +35,7 @@ struct Seen {
 
 /// Two workers, one with a cluster of its own and one with a seat alone, which put what they choose into lanes; and clients with a seat.
 #[derive(Drop)]
-struct Party<J: Naming> {
+struct Party<J: LaneNaming> {
     worker: Worker,
     follower: Follower<J>,
     copier: Seat<J>,
@@ -75,7 +75,7 @@ fn is_same(a: &Option<Proposal<RESOURCES>>, b: &Option<Proposal<RESOURCES>>) -> 
     }
 }
 
-impl<J: Naming> Party<J> {
+impl<J: LaneNaming> Party<J> {
     /// Each client makes its next call. `None` if one is not made.
     fn call<H: Wait>(&mut self, rt: &H, alloc: Global, shared: &Shared<J>) -> Option<()> {
         for client in &mut self.clients {
@@ -152,7 +152,7 @@ impl<J: Naming> Party<J> {
 }
 
 /// All turns, in an epoch that has begun. In each the one that follows has 16 bytes more than in the turn before, and none again after 4,096.
-fn take_turns<J: Naming, H: Wait>(
+fn take_turns<J: LaneNaming, H: Wait>(
     rt: &H,
     alloc: Global,
     begun: Begun<J>,
@@ -163,7 +163,7 @@ fn take_turns<J: Naming, H: Wait>(
         mut seats,
         own,
     } = begun;
-    let (worker, follower) = own.into_parts();
+    let (worker, follower) = following(own)?;
     let (committer, putters) = lanes(alloc, 8).ok()?;
     let mut party = Party {
         worker,
@@ -194,7 +194,7 @@ fn played<H: Wait + Clock>(rt: &H, alloc: Global, hoard: &mut Hoard) -> Option<S
 }
 
 /// The same under a name.
-fn play_under_name<J: Naming, H: Wait + Clock>(
+fn play_under_name<J: LaneNaming, H: Wait + Clock>(
     rt: &H,
     alloc: Global,
     opening: Opening,
@@ -202,12 +202,12 @@ fn play_under_name<J: Naming, H: Wait + Clock>(
 ) -> Option<Seen>
     requires named { opening.blank.0 ≡ J.table }
     requires opening { opening.cluster.flat ≡ J.opening }
-    requires same { opening.worker.cluster.flat ≡ J.opening }
-    requires limit { 1000000 ≡ J.limit }
+    requires same { IfSome opening.worker.cluster (λ own. own.flat ≡ J.opening) }
+    requires limit { 3000 ≡ J.limit }
     requires seats { opening.blank.1 ≡ J.seats }
     requires count { 3 ≡ J.seats }
 {
-    let begun = begin::<J>(alloc, opening, LIMIT)?;
+    let begun = begin::<J, H>(rt, alloc, opening, LIMIT)?;
     take_turns(rt, alloc, begun, hoard)
 }
 
@@ -221,4 +221,14 @@ fn one_that_follows_and_one_that_copies_choose_the_same(rt: HostRuntime) {
     let mut nothing = Hoard::of_nothing(rt.alloc());
     let seen = played(&rt, rt.alloc(), &mut nothing);
     assert!(rt; seen.is_some_and(|seen| is_whole(&seen) && seen.starved == 0));
+}
+
+/// In each turn at least two calls are new, of 32 bytes at least in the list of what is new: so it is refused where 0, 16, 32 or 48 bytes are left,
+/// which is so in 16 turns.
+#[test]
+fn they_choose_the_same_where_memory_is_short(rt: HostRuntime) {
+    let alloc = rt.alloc();
+    let mut hoard = Hoard::new(alloc).unwrap_or(Hoard::of_nothing(alloc));
+    let seen = played(&rt, alloc, &mut hoard);
+    assert!(rt; seen.is_some_and(|seen| is_whole(&seen) && seen.starved >= 16));
 }

@@ -4,10 +4,22 @@
 #[cfg(test)]
 mod calling;
 #[cfg(test)]
+mod clients;
+#[cfg(test)]
+mod committing;
+#[cfg(test)]
+mod copies;
+#[cfg(test)]
 mod epochs;
 #[cfg(test)]
 mod following;
 #[cfg(test)]
 mod in_step;
+#[cfg(test)]
+mod looking;
+#[cfg(test)]
+mod picture;
+#[cfg(test)]
+mod refused;
 #[cfg(test)]
 mod resting;

@@ -1,7 +1,7 @@
 //! A worker that finds nothing to propose rests, and one that is to leave does.
 use crate::epochs::{Play, THREE_ASKED, call_all, play_in};
-use cap_shared::{Naming, Seat, Shared};
-use cap_workers::{Coordinator, Direction, OpenGate, Scheduler, StopSignal};
+use cap_shared::{Seat, Shared};
+use cap_workers::{Coordinator, Direction, LaneNaming, OpenGate, Scheduler, StopSignal};
 use std::alloc::Global;
 use std::sync::atomic::{AtomicU64, Ordering};
 use std::sync::{Mutex, Wait};
@@ -64,7 +64,7 @@ struct Schedule {
 impl Play for Schedule {
     type Seen = ([u128; PAUSES], usize);
 
-    fn play<J: Naming, H: Wait + Clock>(
+    fn play<J: LaneNaming, H: Wait + Clock>(
         &self,
         rt: &H,
         alloc: Global,
@@ -81,7 +81,7 @@ impl Play for Schedule {
             signal: &rests,
             gate: &OpenGate,
         };
-        let _scheduled = own.schedule(rt, shared, &direction, None);
+        let _scheduled = own.schedule(rt, shared, &direction);
         let seen = *rests.pauses.lock(rt);
         let lengths = seen.lengths;
         Some((lengths, shared.entries()))

@@ -3,9 +3,7 @@ use bumpalo::Bump;
 use cap_model::NoMemory;
 use cap_shared::{Naming, Seat, Shared};
 use cap_testing::Work;
-use cap_workers::{
-    Committer, Coordinator, Offer, OfferEnd, OpenGate, Putter, Tally, Worker, commit_all, lanes,
-};
+use cap_workers::{Committer, Offer, OfferEnd, OpenGate, Putter, Worker, lanes};
 use std::alloc::Global;
 use std::sync::Wait;
 use std::sync::atomic::{AtomicU64, Ordering};
@@ -117,57 +115,6 @@ impl Work for Offering {
         if let Some(own) = putters.first_mut() {
             self.offer(rt, shared, &mut seat, own, &mut committer);
         }
-        seat
-    }
-
-    fn finish<J: Naming, H: Wait>(&self, _rt: &H, _shared: &Shared<J>, _seat: &mut Seat<J>) {}
-}
-
-/// Two workers offer what they propose, each so often, all lanes end, and the committer commits what it takes until then.
-#[derive(Drop)]
-pub struct Committing {
-    pub alloc: Global,
-    pub offers: usize,
-    pub tally: Tally,
-}
-
-/// Puts the end of each lane.
-fn end_all<H: Wait>(rt: &H, putters: Vec<Putter>) {
-    for putter in putters {
-        let _ended = putter.finish(rt);
-    }
-}
-
-impl Committing {
-    /// A worker of this number offers what it proposes.
-    fn offer<J: Naming, H: Wait>(
-        &self,
-        rt: &H,
-        shared: &Shared<J>,
-        seat: &mut Seat<J>,
-        number: u32,
-        putter: &mut Putter,
-    ) {
-        let mut worker = Worker::new(number);
-        let mut arena = Bump::new(self.alloc);
-        for _ in 0..self.offers {
-            let _offer = worker.offer(rt, shared, seat, putter, &mut arena, &OpenGate);
-        }
-    }
-}
-
-impl Work for Committing {
-    fn work<J: Naming, H: Wait>(&self, rt: &H, shared: &Shared<J>, seat: Seat<J>) -> Seat<J> {
-        let mut seat = seat;
-        let Ok((committer, mut putters)) = new_lanes(self.alloc) else {
-            return seat;
-        };
-        for (number, putter) in [0, 1].into_iter().zip(putters.iter_mut()) {
-            self.offer(rt, shared, &mut seat, number, putter);
-        }
-        end_all(rt, putters);
-        let coordinator = Coordinator::new();
-        commit_all(rt, shared, &mut seat, &coordinator, &self.tally, committer);
         seat
     }
 

@@ -1,13 +1,12 @@
-//! Tests of turns and offers: two workers that propose the same, starts that wrap, a full journal, the committer.
+//! Tests of turns and offers: two workers that propose the same, starts that wrap, a full journal, an offer that the committer takes.
 
 use crate::workers::epochs::take_turns;
-use crate::workers::offering::{Committing, Offered, Offering};
+use crate::workers::offering::{Offered, Offering};
 use crate::workers::turning::Came;
 use cap_base::RESOURCES;
 use cap_commit::Cluster;
 use cap_model::Reason;
 use cap_testing::{Call, TWO_QUEUES, WantedContainers, cluster_after, epoch, first};
-use cap_workers::Tally;
 use std::alloc::Global;
 use std::sync::Wait;
 use std::sync::atomic::{AtomicU64, Ordering};
@@ -126,41 +125,4 @@ fn offers<H: Threads + Wait + Sync>(rt: &H, alloc: Global) -> Option<(u64, usize
 #[test]
 fn an_offer_is_taken_by_the_committer(rt: HostRuntime) {
     assert!(rt; offers(&rt, rt.alloc()) == Some((2, 1)));
-}
-
-/// How many proposals of two workers, so many of each, a committer makes and rejects, and how many entries the journal has then. All were put
-/// before it begins, on a cluster of two nodes in which so many containers are asked for.
-fn committed<H: Threads + Wait + Sync>(
-    rt: &H,
-    alloc: Global,
-    (offers, count): (usize, u32),
-    limit: usize,
-) -> Option<(u64, u64, usize)> {
-    let cluster = filled(alloc, 2, count)?;
-    let committing = Committing {
-        alloc,
-        offers,
-        tally: Tally::new(),
-    };
-    let closed = epoch(rt, alloc, cluster, 1, limit, &committing)?;
-    let tally = &committing.tally;
-    Some((tally.made(), tally.rejected(), closed.journal.len()))
-}
-
-#[test]
-fn the_committer_commits_each_proposal_that_it_takes(rt: HostRuntime) {
-    let rows = [
-        (1, 2, 100, (2, 0, 2)),
-        (1, 1, 100, (1, 1, 1)),
-        (1, 2, 1, (1, 0, 1)),
-        (5, 10, 100, (10, 0, 10)),
-        (5, 9, 100, (9, 1, 9)),
-    ];
-    for &(offers, count, limit, want) in &rows {
-        let came = committed(&rt, rt.alloc(), (offers, count), limit);
-        assert!(rt;
-            came == Some(want),
-            "{offers} offers, {count} containers, {limit} entries"
-        );
-    }
 }

@@ -1,4 +1,4 @@
 use Rattle.worker_tests.proofs.in_step.played.Given as goal
 
-abbrev pub ghosts-play_under_name : goal.ghosts-play_under_name
-ghosts-play_under_name g a = record { table = a.opening.blank.0; opening = a.opening.cluster.flat; limit = 1000000; seats = 3 }
+abbrev pub ghosts-play_under_name-J-Naming : goal.ghosts-play_under_name-J-Naming
+ghosts-play_under_name-J-Naming g a = record { table = a.opening.blank.0; opening = a.opening.cluster.flat; limit = 3000; seats = 3 }
