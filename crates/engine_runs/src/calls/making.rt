@@ -4,13 +4,21 @@ use crate::calls::work::{Kind, Work};
 use cap_base::RESOURCES;
 use cap_commit::Cluster;
 use cap_messages::dispatch;
-use cap_model::{Ask, Asks, Key, List, Numbers, Reply, ReplyWith, Request, ShortText};
+use cap_model::{
+    Ask, Asks, Key, List, Numbers, Reply, ReplyWith, Request, SettingsText, ShortText,
+};
 use cap_shared::{Naming, Seat, Shared};
-use cap_testing::{Call, make_call};
+use cap_testing::{Call, TWO_QUEUES, make_call};
 use cap_vector::Resource;
 use std::alloc::Global;
 use std::sync::Wait;
 use std::sync::atomic::{AtomicU64, Ordering};
+
+/// How many containers an Allocate with long lists releases.
+const RELEASES: usize = 1024;
+
+/// How many bytes of lines a Refresh has.
+const LINES: usize = 65_526;
 
 /// So many applications in `root.a`, whose masters are registered.
 pub fn add_applications(alloc: Global, cluster: &mut Cluster<RESOURCES>, count: u64) -> Option<()> {
@@ -81,17 +89,26 @@ fn request(alloc: Global, kind: Kind, app: u64, index: u32) -> Option<Request<RE
         Kind::Allocate => Some(Request::Allocate {
             app,
             response: index,
-            asks: asks(alloc)?,
+            asks: asks(alloc, 20)?,
             releases: Numbers::empty(),
+        }),
+        Kind::Lists => Some(Request::Allocate {
+            app,
+            response: index,
+            asks: asks(alloc, 256)?,
+            releases: releases(alloc)?,
+        }),
+        Kind::Refresh => Some(Request::Refresh {
+            text: lines(alloc)?,
         }),
     }
 }
 
-/// Twenty asks for two containers of (1024, 1) each, anywhere.
-fn asks(alloc: Global) -> Option<Asks<RESOURCES>> {
+/// So many asks for two containers of (1024, 1) each, anywhere.
+fn asks(alloc: Global, count: u64) -> Option<Asks<RESOURCES>> {
     let resource = Resource::new([1024, 1, 0])?;
-    let mut asks = Vec::with_capacity(alloc, 20).ok()?;
-    for request in 1..=20u64 {
+    let mut asks = Vec::with_capacity(alloc, count as usize).ok()?;
+    for request in 1..=count {
         let key = Key {
             priority: 1,
             request,
@@ -103,4 +120,27 @@ fn asks(alloc: Global) -> Option<Asks<RESOURCES>> {
         return None;
     }
     List::of(alloc, asks).ok()
+}
+
+/// The numbers of 1,024 containers that are not there.
+fn releases(alloc: Global) -> Option<Numbers> {
+    let mut numbers = Vec::with_capacity(alloc, RELEASES).ok()?;
+    for number in 1..=RELEASES as u64 {
+        numbers.push(number).ok()?;
+    }
+    if numbers.len() > 1024 {
+        return None;
+    }
+    List::of(alloc, numbers).ok()
+}
+
+/// The lines of two queues, and as many empty ones as a frame has room for.
+fn lines(alloc: Global) -> Option<SettingsText> {
+    let mut lines = Vec::with_capacity(alloc, LINES).ok()?;
+    lines.extend_from_slice(TWO_QUEUES).ok()?;
+    lines.resize(LINES, b'\n').ok()?;
+    if lines.len() > 65_526 {
+        return None;
+    }
+    List::of(alloc, lines).ok()
 }

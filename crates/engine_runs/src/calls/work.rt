@@ -8,6 +8,10 @@ pub enum Kind {
     ClusterInfo,
     /// With 20 asks.
     Allocate,
+    /// An Allocate with 256 asks and 1,024 releases.
+    Lists,
+    /// With 65,526 bytes of lines.
+    Refresh,
 }
 
 /// How many threads make how many calls each. With no thread the calls are made without a lock.
@@ -24,6 +28,8 @@ pub fn read_work(line: &str) -> Option<Work> {
     let kind = match words.next()? {
         "info" => Kind::ClusterInfo,
         "allocate" => Kind::Allocate,
+        "lists" => Kind::Lists,
+        "refresh" => Kind::Refresh,
         _ => return None,
     };
     let threads = number(words.next()?, 64)?;

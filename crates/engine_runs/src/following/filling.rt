@@ -133,7 +133,7 @@ fn enter<J: Naming, H: Wait>(
 }
 
 /// So many asks for containers of so many MiB anywhere.
-fn asks(alloc: Global, count: usize, size: u64) -> Option<Vec<WantedContainers<'static>>> {
+pub fn asks(alloc: Global, count: usize, size: u64) -> Option<Vec<WantedContainers<'static>>> {
     let mut asks = Vec::with_capacity(alloc, count).ok()?;
     for request in 0..count as u64 {
         asks.push(WantedContainers {

@@ -1,4 +1,4 @@
-//! What a line of standard input asks for: how large the cluster is, and how many turns are taken (`Work`).
+//! What a line of standard input asks for: how large the cluster is, and what is done in it (`Work`).
 
 use cap_text::number_of;
 
@@ -8,7 +8,38 @@ const WIDE: u64 = 1 << 26;
 /// What a container has, in MiB.
 const CONTAINER: u64 = 1024;
 
-/// How many nodes and leaf queues the cluster has, how many applications with how many asks each, and how many turns the worker takes.
+/// Which call is made again and again.
+#[derive(Clone, Copy)]
+pub enum Kind {
+    /// With 20 asks.
+    Allocate,
+    Heartbeat,
+    RegisterNode,
+    /// With the lines of all queues.
+    Refresh,
+}
+
+/// Who makes calls.
+#[derive(Clone, Copy, PartialEq, Eq)]
+pub enum By {
+    /// One that has the cluster alone, without a lock.
+    Caller,
+    /// A replica, after they were made of a shared cluster.
+    Replica,
+}
+
+/// What is done in the cluster.
+#[derive(Clone, Copy)]
+pub enum Task {
+    /// So many turns of a worker that follows.
+    Turns(u64),
+    /// So many holds in which so many entries are taken as news, always the same.
+    Looks { entries: u64, looks: u64 },
+    /// So many rounds of 16 calls.
+    Rounds { kind: Kind, by: By, rounds: u64 },
+}
+
+/// How many nodes and leaf queues the cluster has, how many applications with how many asks each, and what is done in it.
 /// A node has `node` MiB, a user may have `guarantee` MiB in a leaf queue, and an ask is for containers of `size` MiB. The applications are
 /// of so many users. Where `beside` is not 0 one more, in a wide leaf queue of its own, has one ask for small containers.
 #[derive(Clone, Copy)]
@@ -17,19 +48,23 @@ pub struct Work {
     pub leaves: u64,
     pub applications: u64,
     pub asks: usize,
-    pub turns: u64,
     pub node: u64,
     pub guarantee: u64,
     pub size: u64,
     pub users: u64,
     pub beside: u64,
+    pub task: Task,
 }
 
-/// The work that a line says: at most 256 asks for each application.
+/// The work that a line says: at most 256 asks for each application, and at most 256 entries in each look.
 pub fn read_work(line: &str) -> Option<Work> {
-    let work = match line.strip_prefix("follow ") {
-        Some(rest) => read_wide(rest)?,
-        None => read_narrow(line.strip_prefix("pass ")?)?,
+    let (word, rest) = line.split_once(' ')?;
+    let work = match word {
+        "follow" => read_wide(rest)?,
+        "pass" => read_narrow(rest)?,
+        "news" => read_looks(rest)?,
+        "again" => read_rounds(rest)?,
+        _ => return None,
     };
     if work.asks > 256 {
         return None;
@@ -37,20 +72,31 @@ pub fn read_work(line: &str) -> Option<Work> {
     Some(work)
 }
 
-/// The work of these five numbers: all asks of one user may be granted.
-fn read_wide(rest: &str) -> Option<Work> {
-    let mut words = rest.split(' ');
-    Some(Work {
-        nodes: number(words.next())?,
-        leaves: number(words.next())?,
-        applications: number(words.next())?,
-        asks: number(words.next())? as usize,
-        turns: number(words.next())?,
+/// A cluster in which all asks of one user may be granted.
+fn wide(nodes: u64, leaves: u64, task: Task) -> Work {
+    Work {
+        nodes,
+        leaves,
+        applications: 1,
+        asks: 0,
         node: WIDE,
         guarantee: WIDE,
         size: CONTAINER,
         users: 1,
         beside: 0,
+        task,
+    }
+}
+
+/// The work of these five numbers: all asks of one user may be granted.
+fn read_wide(rest: &str) -> Option<Work> {
+    let mut words = rest.split(' ');
+    let (nodes, leaves) = (number(words.next())?, number(words.next())?);
+    let (applications, asks) = (number(words.next())?, number(words.next())?);
+    Some(Work {
+        applications,
+        asks: asks as usize,
+        ..wide(nodes, leaves, Task::Turns(number(words.next())?))
     })
 }
 
@@ -62,13 +108,44 @@ fn read_narrow(rest: &str) -> Option<Work> {
         leaves: number(words.next())?,
         applications: number(words.next())?,
         asks: number(words.next())? as usize,
-        turns: number(words.next())?,
+        task: Task::Turns(number(words.next())?),
         node: number(words.next())?,
         guarantee: number(words.next())?,
         size: number(words.next())?,
         users: number(words.next())?,
         beside: number(words.next())?,
     })
+}
+
+/// The looks of these three numbers: nodes, entries and looks.
+fn read_looks(rest: &str) -> Option<Work> {
+    let mut words = rest.split(' ');
+    let nodes = number(words.next())?;
+    let (entries, looks) = (number(words.next())?, number(words.next())?);
+    if entries > 256 {
+        return None;
+    }
+    Some(wide(nodes, 1, Task::Looks { entries, looks }))
+}
+
+/// The rounds of a kind, of who makes them, and of two numbers: leaf queues and rounds.
+fn read_rounds(rest: &str) -> Option<Work> {
+    let mut words = rest.split(' ');
+    let kind = match words.next()? {
+        "allocate" => Kind::Allocate,
+        "heartbeat" => Kind::Heartbeat,
+        "node" => Kind::RegisterNode,
+        "refresh" => Kind::Refresh,
+        _ => return None,
+    };
+    let by = match words.next()? {
+        "alone" => By::Caller,
+        "replica" => By::Replica,
+        _ => return None,
+    };
+    let leaves = number(words.next())?;
+    let rounds = number(words.next())?;
+    Some(wide(1, leaves, Task::Rounds { kind, by, rounds }))
 }
 
 /// The number that 1 to 6 digits of a word spell.
