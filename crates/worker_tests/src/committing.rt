@@ -9,8 +9,8 @@ use cap_config::read_config;
 use cap_shared::{Blank, Seat, Shared};
 use cap_testing::{Call, TWO_QUEUES, WantedContainers};
 use cap_workers::{
-    BegunEpoch, BlankLanes, Coordinator, EndedLane, IdleWorker, LaneNaming, OpenGate, Scheduler,
-    Seeing, Tally, Worker, begin_epoch, commit_all,
+    BegunEpoch, BlankLanes, Coordinator, IdleWorker, LaneNaming, OpenGate, Scheduler, Seeing,
+    Tally, Worker, begin_epoch, commit_all,
 };
 use std::alloc::Global;
 use std::marker::Brand;
@@ -106,13 +106,13 @@ fn ask<J: LaneNaming, H: Wait>(
     call_all(rt, alloc, shared, caller, &calls)
 }
 
-/// Offers so often, and ends the lane. `None` if the worker has none, or sees the cluster by copies.
+/// Offers so often, and ends the lane: how often. `None` if the worker has none, or sees the cluster by copies.
 fn offer<J: LaneNaming, H: Wait>(
     rt: &H,
     shared: &Shared<J>,
     scheduler: Scheduler<J>,
     offers: usize,
-) -> Option<EndedLane<J>> {
+) -> Option<usize> {
     let (mut worker, seeing, lane) = scheduler.into_parts();
     let Seeing::Following(mut follower) = seeing else {
         return None;
@@ -121,7 +121,8 @@ fn offer<J: LaneNaming, H: Wait>(
     for _ in 0..offers {
         let _end = worker.follow_to_lane(rt, shared, &mut follower, &mut putter, &OpenGate);
     }
-    Some(EndedLane::of(rt, putter))
+    let _ended = putter.finish(rt);
+    Some(offers)
 }
 
 fn played<H: Wait>(rt: &H, alloc: Global, row: Row) -> Option<Came> {
@@ -165,7 +166,7 @@ fn play_under_name<J: LaneNaming, H: Wait>(
     let mut caller = seats.pop()?;
     ask(rt, alloc, &shared, &mut caller, row.count)?;
     for scheduler in schedulers {
-        let _ended = offer(rt, &shared, scheduler, row.offers)?;
+        offer(rt, &shared, scheduler, row.offers)?;
     }
     let (coordinator, tally) = (Coordinator::new(), Tally::new());
     let _lanes = commit_all(rt, &shared, &coordinator, &tally, lanes?)?;
