@@ -155,14 +155,23 @@ fn play_under_name<J: LaneNaming, H: Wait>(
         workers,
     } = opened;
     let limit = row.entries + CALLS;
-    let (shared, mut seats) = Shared::<J>::open(alloc, blank, cluster, limit).ok()?;
-    let workers = Vec::from_array(alloc, workers).ok()?;
-    let begun = begin_epoch(rt, alloc, workers, &mut seats, Some(lanes)).ok()?;
-    let BegunEpoch {
-        schedulers,
-        lanes,
-        ..
-    } = begun;
+    let Ok((shared, mut seats)) = Shared::<J>::open(alloc, blank, cluster, limit) else {
+        return None;
+    };
+    let Ok(workers) = Vec::from_array(alloc, workers) else {
+        return None;
+    };
+    let begun = begin_epoch(rt, alloc, workers, &mut seats, Some(lanes));
+    let Ok(
+        BegunEpoch {
+            schedulers,
+            lanes,
+            ..
+        },
+    ) = begun
+    else {
+        return None;
+    };
     let mut caller = seats.pop()?;
     ask(rt, alloc, &shared, &mut caller, row.count)?;
     for scheduler in schedulers {
