@@ -1,6 +1,6 @@
 -- What a node has room for, and what limits allow.
-use Rattle.std.specs.Prelude.{◌≡◌, ◌⊎◌, ℕ, Bool, false, ◌&&◌, List, Option, Some, None, is_none, nat_le, if◌then◌else◌}
-use Rattle.std.specs.List.{list_all}
+use Rattle.std.specs.Prelude.{◌≡◌, ◌⊎◌, ℕ, ◌<◌, ◌≤◌, Bool, false, ◌&&◌, List, Option, Some, None, is_none, length, nat_le, if◌then◌else◌}
+use Rattle.std.specs.List.{list_all, slice_get}
 use Rattle.cap_vector.specs.Vector.{amounts_exchanged, zeros}
 use Rattle.cap_base.specs.Amounts.{fits}
 use Rattle.cap_base.specs.Cascade.{holds_of}
@@ -45,9 +45,19 @@ module _ {K : ℕ} where
       list_all (λ q. fits_maximum q.row.maximum (amounts_exchanged old new q.used)) (queues_to sight app.leaf)
       && holds_of (λ q. fits_user_limit q.row.factor q.row.guaranteed (amounts_exchanged old new (q.used_by app.user))) (seen_queue sight app.leaf)
 
+  -- an ask that no node of a sight takes
+  abbrev pub IsImpossible : Sight K → Ask → Type 0
+  IsImpossible sight ask = (node : NodeSight) → IsIn node sight.nodes → IsUnfit ask node
+
+  -- so are the asks from one on, before another
+  pub record AreImpossible (sight : Sight K) (asks : List Ask) (from to : ℕ) : Type 0 where
+    pub later : from ≤ to
+    pub within : to ≤ length asks
+    pub passed : (index : ℕ) (ask : Ask) → from ≤ index → index < to → slice_get asks index ≡ Some ask → IsImpossible sight ask
+
   -- an ask that no node takes, or that the limits of its application allow on none that holds no reservation
   abbrev pub IsShutFor : Sight K → AppSight → Ask → Type 0
-  IsShutFor sight app ask = ((node : NodeSight) → IsIn node sight.nodes → IsUnfit ask node) ⊎ (in_limits sight app (zeros K) ask.resource ≡ false)
+  IsShutFor sight app ask = IsImpossible sight ask ⊎ (in_limits sight app (zeros K) ask.resource ≡ false)
 
   -- so is each ask of an application
   abbrev pub IsShut : Sight K → AppSight → Type 0

@@ -9,7 +9,7 @@ ghost use Rattle.cap_model.specs.declared.ask.Key.{Key as Wish};
 ghost use Rattle.cap_model.specs.Sight.{AppSight, Sight, seen_app, still_wanted};
 ghost use Rattle.cap_farm.specs.Offers.{IsWhole};
 ghost use Rattle.cap_farm.specs.Ring.{IsReserved, IsTurn, ring_index};
-ghost use Rattle.cap_farm.specs.Rooms.{IsIdle, IsShut, IsUnfit, in_limits};
+ghost use Rattle.cap_farm.specs.Rooms.{AreImpossible, IsIdle, IsShut, IsUnfit, in_limits};
 ghost use Rattle.cap_farm.specs.Service.{HasNoNextApp, IsNextApp};
 
 use cap_model::{Ask, Key, Reservation, ShortText};
@@ -141,6 +141,13 @@ pub trait Farm<const K: usize> {
     fn is_shut(&self, of: Self::App) -> bool
         requires { has self.now of }
         ensures { result ≡ true → IsShut (sight self.now) (shown self.now of) };
+
+    /// The index of an ask of an application, from `from` on, before which no ask may be taken by any node that holds no
+    /// reservation. It may stop early.
+    fn next_possible(&self, of: Self::App, from: usize) -> usize
+        requires has { has self.now of }
+        requires from { from ≤ length (shown self.now of).asks }
+        ensures { AreImpossible (sight self.now) (shown self.now of).asks from result };
 
     /// How many containers are live.
     fn live(&self) -> usize
