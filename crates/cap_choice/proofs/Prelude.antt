@@ -40,7 +40,7 @@ pub use Rattle.cap_choice.specs.Nearest.{ComesBefore, ComesUpTo, IsAskBefore, Is
 pub use Rattle.cap_choice.specs.declared.choice.Taker.{Taker}
 pub use Rattle.cap_farm.specs.Offers.{AreByKey, IsOffer, IsSeenApp, IsWhole, Offer}
 pub use Rattle.cap_farm.specs.Ring.{IsReserved, IsTurn, node_after, ring_index}
-pub use Rattle.cap_farm.specs.Rooms.{IsIdle, IsShut, IsShutFor, IsUnfit, in_limits, kind_beside, kind_by_room, room_kind, taken_as}
+pub use Rattle.cap_farm.specs.Rooms.{AreImpossible, IsIdle, IsShut, IsShutFor, IsUnfit, in_limits, kind_beside, kind_by_room, room_kind, taken_as}
 pub use Rattle.cap_farm.specs.Service.{HasNoNextApp, IsLater, IsNextApp, IsWaiter, app_cmp, levels_to}
 pub use Rattle.cap_vector.proofs.AmountLemmas.{amount-less, amount-zeros, length-less}
 pub use Rattle.cap_vector.specs.Vector.{amounts_exchanged, less, plus, zeros}

@@ -1,5 +1,5 @@
 -- The nearest node that takes an ask, as the applications are walked over.
-use Rattle.cap_choice.proofs.Prelude.{◌≡◌, ℕ, suc, ◌+◌, ◌<◌, ◌≤◌, Bool, true, false, cond, List, [], ◌∷◌, length, filter, not, Some, None, refl, sym, ◌∙◌, ap, subst, inl, inr, arith, ◌⊎◌, Option, unwrap_or, slice_get, slice_get_within, cases_lt, is_gt, is_lt, nat_cmp_total, on_total, then_total, lists_total, level_cmp_total, IsTotalOrder, ordering_reverse, Ordering, Less, Equal, Greater, ask_key_cmp, ask_key_cmp_total, not_after_itself, Ask, AppSight, NodeSight, Sight, NodeProposal, ProposalKind, choice_on, IsIn, each_of, found, ◌==◌, AreByKey, IsOffer, IsSeenApp, IsWhole, Offer, proposal_of, IsOpen, IsPassed, TakesAt, node_after, IsReserved, IsShut, IsShutFor, IsTurn, HasNoNextApp, IsNextApp, IsWaiter, app_cmp, levels_to, ComesBefore, ComesUpTo, IsNearest, IsNearestBefore, IsNearestUpTo}
+use Rattle.cap_choice.proofs.Prelude.{◌≡◌, ℕ, suc, ◌+◌, ◌<◌, ◌≤◌, Bool, true, false, cond, List, [], ◌∷◌, length, filter, not, Some, None, refl, sym, ◌∙◌, ap, subst, inl, inr, arith, ◌⊎◌, Option, unwrap_or, slice_get, slice_get_within, cases_lt, is_gt, is_lt, nat_cmp_total, on_total, then_total, lists_total, level_cmp_total, IsTotalOrder, ordering_reverse, Ordering, Less, Equal, Greater, ask_key_cmp, ask_key_cmp_total, not_after_itself, Ask, AppSight, NodeSight, Sight, NodeProposal, ProposalKind, choice_on, IsIn, each_of, found, ◌==◌, AreByKey, IsOffer, IsSeenApp, IsWhole, Offer, proposal_of, IsOpen, IsPassed, TakesAt, node_after, AreImpossible, IsReserved, IsShut, IsShutFor, IsTurn, HasNoNextApp, IsNextApp, IsWaiter, app_cmp, levels_to, ComesBefore, ComesUpTo, IsNearest, IsNearestBefore, IsNearestUpTo}
 use Rattle.cap_choice.proofs.Admitting.{holds_none}
 use Rattle.cap_choice.proofs.Choosing.{index_in, least_chosen, not_after_key, not_after_later, offer_waits, same_app, served_cmp, slice_get_in}
 use Rattle.cap_choice.proofs.Passing.{fewer, reserved_passed, ring_node_is, shut_passed}
@@ -73,6 +73,25 @@ module _ {K : ℕ} (sight : Sight K) where
           by : (o : Offer) → IsOffer sight o → ComesUpTo sight app (length app.asks) o → IsPassed sight first turn o
           by o is (inl less) = near.passed o is less
           by o is (inr b) = shut_passed sight whole first o is turn (subst (λ (a : AppSight). IsShutFor sight a o.ask) (sym b.same) (shut o.ask (slice_get_in app.asks b.index o.ask b.at)))
+
+      -- with asks that no node takes
+      pub impossible_passed : (from to turn : ℕ) (proposal : Option NodeProposal) → AreImpossible sight app.asks from to → IsNearestUpTo sight first app from turn proposal → IsNearestUpTo sight first app to turn proposal
+      impossible_passed from to turn proposal none near = record { within = near.within; passed = by; chosen = near.chosen; none = near.none }
+        where
+          by : (o : Offer) → IsOffer sight o → ComesUpTo sight app to o → IsPassed sight first turn o
+          by o is (inl less) = near.passed o is (inl less)
+          by o is (inr b) = elim (cases_lt b.index from) [
+            | inl early ↦ near.passed o is (inr (record { same = b.same; index = b.index; early = early; at = b.at }))
+            | inr late ↦ shut_passed sight whole first o is turn (inl (none.passed b.index o.ask late b.early b.at))
+          ]
+
+      -- where none is left
+      pub all_asks : (from turn : ℕ) (proposal : Option NodeProposal) → length app.asks ≤ from → IsNearestUpTo sight first app from turn proposal → IsNearestUpTo sight first app (length app.asks) turn proposal
+      all_asks from turn proposal many near = other_asks first (ComesUpTo sight app from) (ComesUpTo sight app (length app.asks)) turn proposal (λ o is n. by o n) near
+        where
+          by : (o : Offer) → ComesUpTo sight app (length app.asks) o → ComesUpTo sight app from o
+          by o (inl less) = inl less
+          by o (inr b) = inr (record { same = b.same; index = b.index; early = (let e = b.early in omega (arith, e, many)); at = b.at })
 
       -- the others are before it, or served no earlier
       module _ (i : ℕ) (x : Ask) (at : slice_get app.asks i ≡ Some x) where

@@ -78,8 +78,8 @@ fn nearest_taker<const K: usize, F: Farm<K>>(farm: &F, first: usize, count: usiz
 
 /// The nearest taker where `nearest` is the one of all asks of applications that are served before that one: a node that takes one of
 /// its asks, if one comes before it, and else `nearest`. The first `least` nodes of the ring hold reservations, so that none of
-/// them takes an ask. An application that is shut to all its asks is passed over at once. An ask that no node fits is passed over at
-/// once too, then one that no limits allow, and then nodes are looked at.
+/// them takes an ask. An application that is shut to all its asks is passed over at once, and so are asks that no node could take.
+/// Any other ask that no node fits is passed over by one search, then one that no limits allow, and then nodes are looked at.
 fn nearer_taker<const K: usize, F: Farm<K>>(
     farm: &F,
     first: usize,
@@ -105,10 +105,16 @@ fn nearer_taker<const K: usize, F: Farm<K>>(
     if asks > 1 && farm.is_shut(app) {
         return nearest;
     }
-    for index in 0..asks {
+    let mut from = 0;
+    while from < asks {
         if nearest.turn <= least {
             return nearest;
         }
+        let index = farm.next_possible(app, from);
+        if index >= asks {
+            return nearest;
+        }
+        from = index + 1;
         let ask = farm.ask(app, index);
         let begin = farm.next_fit(first, 0, ask);
         if begin >= nearest.turn {
