@@ -123,6 +123,11 @@ impl<const K: usize, B: Allocator + Copy> Farm<K> for Snapshot<K, B> {
         false
     }
 
+    fn next_possible(&self, _of: u64, from: usize) -> usize {
+        // Nor is an ask passed over here: a snapshot keeps nothing that tells it without a look at the ask.
+        from
+    }
+
     fn live(&self) -> usize {
         self.live
     }
