@@ -16,7 +16,7 @@ kept_one_less key asks k = by (ask_at key asks) refl
 
 pub keeps_asks : {K : ℕ} (change : Change K) (app : App) → AreKept app.asks → AreKept (changed_by change app).asks
 keeps_asks Register app k = k
-keeps_asks (PutAsk put) app k = kept_put put.now app.asks k
+keeps_asks (PutAsk put impossible) app k = kept_put put.now app.asks k
 keeps_asks (TakeOne key) app k = kept_one_less key.now app.asks k
 keeps_asks (AddGrant grant) app k = k
 keeps_asks (AddEnd end) app k = k

@@ -1,11 +1,12 @@
 -- What the proofs here take from elsewhere.
-pub use Rattle.std.proofs.Common.{Bool, List, [], add-one, ap, arith, cond, drop, false, get_or, inl, inr, is_some, length, length-append, length-drop, length-set, length-take, map, min, nat_cmp, refl, subst, suc, sym, take, true, zero, ℕ, ◌++◌, ◌+◌, ◌-◌, ◌/◌, ◌<◌, ◌∙◌, ◌∷◌, ◌≡◌, ◌≢◌, ◌≤◌}
+pub use Rattle.std.proofs.Common.{Bool, List, [], add-one, ap, arith, cond, drop, false, get_or, inl, inr, is_some, length, length-append, length-drop, length-set, length-take, map, min, nat_cmp, refl, subst, suc, sym, take, true, zero, ℕ, ◌++◌, ◌+◌, ◌-◌, ◌/◌, ◌<◌, ◌∙◌, ◌∷◌, ◌≡◌, ◌≢◌, ◌≤◌, ◌*◌}
 pub use Rattle.std.proofs.lemmas.Bool.Decides.{nat_tests}
 pub use Rattle.std.proofs.lemmas.Grind.{common_steps}
 pub use Rattle.std.proofs.lemmas.List.{append_cancel_left, drop-drop, drop_min, get_or-set_other, get_or-set_same, length-map, length-replicate, map_push, take_at, take_min, take_more}
+pub use Rattle.std.proofs.lemmas.List.Edits.{length-insert, length-remove}
 pub use Rattle.std.proofs.lemmas.List.Elements.{All-head, All-more, All-nil, All-push, All-tail, All-weaker}
 pub use Rattle.std.proofs.lemmas.List.Sorted.{searched}
-pub use Rattle.std.proofs.lemmas.List.Sums.{fold_more}
+pub use Rattle.std.proofs.lemmas.List.Sums.{fold_more, sum_by-cons, sum_by-insert, sum_by-remove, sum_by-set}
 pub use Rattle.std.proofs.lemmas.Map.{lookup-set_value}
 pub use Rattle.std.proofs.lemmas.Map.Made.{lookup-map_values}
 pub use Rattle.std.proofs.lemmas.Option.{get_or_from_slice_get, slice_get-map, slice_get_read, slice_get_within}

@@ -10,6 +10,9 @@ use Rattle.std.proofs.Common.{append-nil}
 use Rattle.std.proofs.lemmas.List.Elements.{filter-append}
 use Rattle.cap_asks.specs.Apps.{with_entry, without_entry}
 use Rattle.std.specs.Box.{with_value as with_boxed}
+use Rattle.cap_asks.proofs.Impossible.{among_front, among_without}
+use Rattle.cap_asks.specs.Apps.{impossible_in}
+use Rattle.cap_asks.specs.Impossible.{AreAmong}
 use Rattle.cap_asks.proofs.Entries.{apps_of, accounts_of, account_there, is_number, by_number, none_changed, one_changed, one_uses, still_numbered, still_without, numbered_front, numbered_push, table_without, account_left}
 use Rattle.cap_asks.proofs.KeptAsks.{kept_before, kept_changed, kept_left, kept_more}
 use Rattle.cap_asks.proofs.Slots.{written, updated, looked_at, is_held, held_set, held_without, held_push, held_back, entries_without, slot_taken, opened}
@@ -310,6 +313,7 @@ pub record AreWithout (n : ℕ) (es new : List (ℕ × HeldApp)) (next : ℕ) : 
   pub numbered : AreNumbered 1 new next
   pub table : record { active = apps_of new; next = next } ≡ remove_app n (record { active = apps_of es; next = next })
   pub accounts : IsLeft n (accounts_of es) (accounts_of new)
+  pub impossible : AreAmong (impossible_in new) (impossible_in es)
 
 pub without : (n next : ℕ) (held held' : ℕ → HeldApp) (index left : List (ℕ × ℕ)) → AreNumbered 1 (entries_at held index) next → left ≡ remove_entry (is_at (nat_cmp n)) index → lookup (is_at (nat_cmp n)) left ≡ None
     → ((m : ℕ) → is_at (nat_cmp n) m ≡ false → lookup (is_at (nat_cmp m)) left ≡ lookup (is_at (nat_cmp m)) index) → entries_at held' left ≡ entries_at held left → AreWithout n (entries_at held index) (entries_at held' left) next
@@ -321,6 +325,7 @@ without n next held held' index left h is none others kept =
       numbered = rw left_is (still_without 1 n next es h);
       table = table_without n next es (entries_at held left) h left_is;
       accounts = account_left n es (entries_at held left) own (λ m o. sym (looked_at held m left refl) ∙ ap (option_map held) (others m o) ∙ looked_at held m index refl);
+      impossible = rw left_is (among_without (nat_eq n) es);
     })
 
 pub taken_out : {A : Type 0} (n slot : ℕ) (apps apps' : Slab (Box HeldApp A)) (index left : List (ℕ × ℕ)) {next : ℕ} {ws : List (ℕ × ℕ)} {room : ℕ} → AreIndexed (held_at apps) index next ws room → left ≡ remove_entry (is_at (nat_cmp n)) index
@@ -352,6 +357,7 @@ pub record AreBack (held held' : ℕ → HeldApp) (p : ℕ × ℕ) (index left w
   pub whole : {now : List (ℕ × ℕ)} {n_room : ℕ} → now ≡ without_entry p.0 ws → room ≤ n_room → AreIndexed held' left p.0 now n_room
   pub table : (leaf user : List ℕ) (table : AppTable) → record { active = apps_of (entries_at held index); next = next } ≡ add_app leaf user table → record { active = apps_of (entries_at held' left); next = p.0 } ≡ table
   pub accounts : (number : ℕ) (account : Account) (accounts : List (ℕ × Account)) → accounts_of (entries_at held index) ≡ accounts ++ (number, account) ∷ [] → accounts_of (entries_at held' left) ≡ accounts
+  pub impossible : AreAmong (impossible_in (entries_at held' left)) (impossible_in (entries_at held index))
 
 pub taken_back : {A : Type 0} (q : ℕ × ℕ) (apps apps' : Slab (Box HeldApp A)) (index left : List (ℕ × ℕ)) {next : ℕ} {ws : List (ℕ × ℕ)} {room : ℕ} → AreIndexed (held_at apps) index next ws room
     → index ≡ left ++ q ∷ [] → lookup (is_at (nat_cmp q.0)) index ≡ Some q.1 → Updates apps apps' q.1 None → AreBack (held_at apps) (held_at apps') q index left ws next room
@@ -385,6 +391,7 @@ taken_back q apps apps' index left {next} {ws} {room} h last e u =
           ap (λ xs. record { active = xs; next = q.0 }) parts.0 ∙ ap (λ k. record { active = table.active; next = k }) number;
       accounts = λ number account accounts e.
           (same_push (accounts_of new) accounts (q.0, p.1.account) (number, account) (sym (ap accounts_of is ∙ map_push (λ (x : ℕ × HeldApp). (x.0, x.1.account)) new p) ∙ e)).0;
+      impossible = rw is (among_front new p);
     }
 
 -- all that grew before a change

@@ -10,11 +10,13 @@ use Rattle.cap_model.specs.News.{AllocateReply}
 use Rattle.cap_model.specs.ResponseIds.{is_repeated}
 use Rattle.cap_model.specs.Reporting.{reported_of}
 use Rattle.cap_model.specs.declared.replies.Reported.{Reported}
+use Rattle.cap_asks.specs.Impossible.{Want}
 
--- asks in order of key, and how many more keys fit with no memory
+-- asks in order of key, how many more keys fit with no memory, and what those want that are impossible
 pub record HeldAsks : Type 0 where
   pub asks : List Ask
   pub room : ℕ
+  pub impossible : List Want
 
 -- news of one kind: what the last reply told, what waits, and how many more fit with no memory
 pub record HeldNews (T : Type 0) : Type 0 where
@@ -31,10 +33,11 @@ pub record Account : Type 0 where
   pub grants : ℕ
   pub ends : ℕ
 
--- an application and its account
+-- an application, its account, and what its impossible asks want
 pub record HeldApp : Type 0 where
   pub app : App
   pub account : Account
+  pub impossible : List Want
 
 -- one key stands before another
 abbrev pub is_before : Key → Key → Bool

@@ -1,12 +1,13 @@
 -- The table of active applications, with the account of each.
 use Rattle.std.specs.Prelude.{Box, ◌≡◌, ℕ, ◌+◌, ◌≤◌, Bool, ◌&&◌, not, nat_lt, filter, length, map, List, [], ◌∷◌, ◌++◌, Option, Some, None, option_and_then, false, nat_eq, ◌==◌, if◌then◌else◌, option_map}
 use Rattle.std.specs.Option.{option_map_or}
-use Rattle.std.specs.List.{AllByRecursion}
+use Rattle.std.specs.List.{AllByRecursion, flat_map}
 use Rattle.std.specs.Map.{lookup}
 use Rattle.slab.specs.Slab.{Slab, get}
 use Rattle.cap_model.specs.Flat.{AppTable, app_in, App}
 use Rattle.cap_model.specs.News.{AllocateReply, Grant}
 use Rattle.cap_asks.specs.Accounts.{Account, AreKept, HeldApp}
+use Rattle.cap_asks.specs.Impossible.{AreLeftBy, Want}
 use Rattle.cap_model.specs.Reporting.{reported_of}
 use Rattle.cap_model.specs.declared.ask.Key.{Key}
 use Rattle.cap_model.specs.declared.news.End.{End}
@@ -17,10 +18,11 @@ use Rattle.cap_model.specs.Events.{take_one}
 use Rattle.cap_model.specs.Allocate.{after_telling}
 use Rattle.cap_model.specs.declared.replies.Reported.{Reported}
 
--- the active applications, and the account of each by its number
+-- the active applications, the account of each by its number, and what their impossible asks want
 pub record HeldApps : Type 0 where
   pub table : AppTable
   pub accounts : List (ℕ × Account)
+  pub impossible : List Want
 
 -- an application waits for containers where its master has registered, and it has asks
 abbrev pub is_waiting : App → Bool
@@ -124,7 +126,7 @@ AreNumbered low (e ∷ es) next = (low ≤ e.0) × (e.1.app.number ≡ e.0) × A
 
 -- what counts as held in a slot with nothing in it: no application has the number 0
 abbrev pub nobody : HeldApp
-nobody = record { app = new_app 0 [] []; account = new_account [] }
+nobody = record { app = new_app 0 [] []; account = new_account []; impossible = [] }
 
 -- what a slot holds
 abbrev pub held_at : {A : Type 0} → Slab (Box HeldApp A) → ℕ → HeldApp
@@ -137,6 +139,21 @@ entries_at held index = map (λ e. (e.0, held e.1)) index
 -- the asks of each application are in order of key, each for at least one container
 abbrev pub AreAllKept : List App → Type 0
 AreAllKept apps = AllByRecursion (λ app. AreKept app.asks) apps
+
+-- an application after a node came: the same, and its impossible asks that the node could take are impossible no more
+pub record IsAfterNode (host rack total : List ℕ) (old new : HeldApp) : Type 0 where
+  pub app : new.app ≡ old.app
+  pub account : new.account ≡ old.account
+  pub impossible : AreLeftBy host rack total new.impossible old.impossible
+
+-- so is each that is held; the flag is false only where none has an impossible ask then
+pub record AreAfterNode (host rack total : List ℕ) (old new : ℕ → HeldApp) (flag : Bool) : Type 0 where
+  pub each : (slot : ℕ) → IsAfterNode host rack total (old slot) (new slot)
+  pub clear : flag ≡ false → (slot : ℕ) → (new slot).impossible ≡ []
+
+-- what the impossible asks of those in the entries want
+abbrev pub impossible_in : List (ℕ × HeldApp) → List Want
+impossible_in es = flat_map (λ e. e.1.impossible) es
 
 -- an index of applications in slots under their numbers, which rise from 1 and are below the next, with their asks in order; its entries of
 -- those that wait, in memory that has room for all

@@ -1,3 +1,4 @@
 pub mod Apps
 pub mod Accounts
 pub mod Changes
+pub mod Impossible

@@ -9,7 +9,10 @@ ghost use Rattle.cap_model.specs.ResponseIds.{is_repeated, is_bad_id};
 ghost use Rattle.cap_model.specs.Submit.{new_app};
 ghost use Rattle.cap_asks.specs.Accounts.{AreKept, TakesRoom, HasRoom, WantAtLeast, repeated_numbers, with_numbers};
 ghost use Rattle.cap_model.specs.Reporting.{reported_of, news_most};
-ghost use Rattle.cap_asks.specs.Changes.{MayChange, Takes, changed_by, used_by};
+ghost use Rattle.cap_asks.specs.Changes.{Marks, MayChange, Takes, changed_by, used_by};
+ghost use Rattle.cap_asks.specs.Impossible.{AreLeftBy, WantAmong, want_of};
+ghost use Rattle.cap_base.specs.Members.{IsIn};
+ghost use Rattle.cap_model.specs.Asks.{Ask as AskValue};
 ghost use Rattle.cap_asks.specs.Apps.{is_waiting, new_account};
 
 use crate::asks::Asks;
@@ -78,6 +81,7 @@ impl<const K: usize> Model for App<K> {
         grants = a.grants.room;
         ends = a.ends.room;
       };
+      impossible = a.asks.impossible;
     } };
 
     ghost invariant = { λ a. (a.response < response_end) × (a.live ≤ a.ends.room)
@@ -95,6 +99,7 @@ impl<const K: usize> App<K> {
     ) -> App<K>
         ensures app { result.app ≡ new_app number leaf.now user.now }
         ensures account { result.account ≡ new_account position.items }
+        ensures impossible { result.impossible ≡ [] }
     {
         App {
             number,
@@ -183,6 +188,39 @@ impl<const K: usize> App<K> {
         ensures { WantAtLeast result self.now.app.asks }
     {
         resized(&self.least)
+    }
+
+    /// The index of the first of its asks from `from` on that may be possible, their number where none is. The others before are impossible:
+    /// no node that is present could take one, not even one that is empty. It costs one look at each of these at most.
+    pub fn next_possible(&self, from: usize) -> usize
+        requires { from ≤ length self.now.app.asks }
+        ensures { WantAmong self.now.impossible self.now.app.asks from result }
+    {
+        self.asks.next_possible(from)
+    }
+
+    /// Whether all its asks are impossible. It looks at none.
+    pub fn is_impossible(&self) -> bool
+        ensures { result ≡ true → (ask : AskValue) → IsIn ask self.now.app.asks
+            → IsIn (want_of ask) self.now.impossible }
+    {
+        self.asks.are_impossible()
+    }
+
+    /// Whether one of its asks is impossible. It looks at none.
+    pub(crate) fn has_impossible(&self) -> bool
+        ensures { result ≡ false → self.now.impossible ≡ [] }
+    {
+        self.asks.has_impossible()
+    }
+
+    /// A node of this host, rack and total in MiB, vcores and GPUs has come: each ask that it could take may be possible from now on.
+    pub(crate) fn node_came(&mut self, host: &ShortText, rack: &ShortText, total: &Resource<K>)
+        ensures app { self.new.app ≡ self.old.app }
+        ensures account { self.new.account ≡ self.old.account }
+        ensures impossible { AreLeftBy host.now rack.now total.now self.new.impossible self.old.impossible }
+    {
+        self.asks.node_came(host, rack, total);
     }
 
     /// Its ask of this key, none where there is none.
@@ -291,6 +329,7 @@ impl<const K: usize> App<K> {
         ends: usize,
     ) -> Result<(), NoMemory>
         ensures app { self.new.app ≡ self.old.app }
+        ensures impossible { self.new.impossible ≡ self.old.impossible }
         ensures stays { TakesRoom 0 0 0 self.old.account self.new.account }
         ensures ok { OnOk result (HasRoom asks grants ends self.new.account) }
         ensures succeeds { HasRoom asks grants ends self.old.account → IsOk result }
@@ -321,12 +360,13 @@ impl<const K: usize> App<K> {
         ensures app { self.new.app ≡ changed_by change.entry self.old.app }
         ensures number { self.new.app.number ≡ self.old.app.number }
         ensures account { Takes (used_by change.entry) self.old.account self.new.account }
+        ensures impossible { Marks change.entry self.old.impossible self.new.impossible }
     {
         match change {
             Change::Register => self.registered = true,
-            Change::PutAsk(ask) => {
+            Change::PutAsk(ask, impossible) => {
                 self.least = self.least_with(ask);
-                self.asks.put(ask);
+                self.asks.put(ask, impossible);
             }
             Change::TakeOne(key) => self.asks.take_one(key),
             Change::AddGrant(grant) => {
@@ -344,6 +384,7 @@ impl<const K: usize> App<K> {
     /// its numbers.
     pub(crate) fn tell(&mut self, ignored: u16) -> Reported
         ensures app { self.new.app ≡ after_telling self.old.app.response ignored self.old.app }
+        ensures impossible { self.new.impossible ≡ self.old.impossible }
         ensures account { TakesRoom 0 0 0 self.old.account self.new.account }
         ensures told { option_map reported_of self.new.app.kept ≡ Some result }
     {

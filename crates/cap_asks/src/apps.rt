@@ -1,5 +1,5 @@
 //! The active applications by number, and the changes that calls make of one (`Apps`).
-ghost use Rattle.std.specs.Prelude.{◌≡◌, ℕ, List, ◌+◌, ◌<◌, ◌≤◌, ◌++◌, ◌∷◌, [], true, false, Some, length, map, option_map, vec_capacity, IfOk, OnOk, OnErr, IsOk, IsSome, if◌then◌else◌};
+ghost use Rattle.std.specs.Prelude.{◌≡◌, ℕ, List, ◌+◌, ◌<◌, ◌≤◌, ◌++◌, ◌∷◌, [], true, false, Some, length, map, option_map, vec_capacity, IfOk, IfSome, OnOk, OnErr, IsOk, IsSome, if◌then◌else◌};
 ghost use Rattle.cap_base.specs.Limits.{live_max, number_end};
 ghost use Rattle.std.specs.List.{All, slice_get};
 ghost use Rattle.std.specs.Option.{option_map_or};
@@ -10,13 +10,15 @@ ghost use Rattle.cap_model.specs.Submit.{add_app};
 ghost use Rattle.cap_model.specs.FinishMaster.{remove_app};
 ghost use Rattle.cap_model.specs.Flat.{AppTable, change_app, no_apps, app_in};
 ghost use Rattle.cap_asks.specs.Accounts.{Account, AreKept};
-ghost use Rattle.cap_asks.specs.Changes.{CanChange, Uses, changed_by, used_by};
-ghost use Rattle.cap_asks.specs.Apps.{is_waiting, waiting_of, with_entry, without_entry, IsLeft, account_of, ask_room, live_of, UsesRoom, HasRooms, kept_of, KeepsNumbers, Enters, with_ask_put, with_one_less, with_waiting_grant, with_waiting_end, after_next_reply};
+ghost use Rattle.cap_asks.specs.Changes.{CanChange, Marks, Uses, changed_by, used_by};
+ghost use Rattle.cap_asks.specs.Impossible.{AreAmong, AreAmongOr, AreLeftBy};
+ghost use Rattle.cap_asks.specs.Apps.{AreAfterNode, held_at, is_waiting, waiting_of, with_entry, without_entry, IsLeft, account_of, ask_room, live_of, UsesRoom, HasRooms, kept_of, KeepsNumbers, Enters, with_ask_put, with_one_less, with_waiting_grant, with_waiting_end, after_next_reply};
 
 use crate::app::{App, Position};
 use crate::change::Change;
 use crate::waiting::Waiting;
 use cap_model::{AllocateView, Ask, End, Grant, Key, NoMemory, PathText, Reported, ShortText};
+use cap_vector::Resource;
 use slab::Slab;
 use std::alloc::{Allocator, Global};
 use std::collections::BTreeMap;
@@ -33,11 +35,12 @@ pub struct Apps<const K: usize> {
     apps: Slab<Box<App<K>>>,
     waiting: Vec<(u64, usize)>,
     next: u64,
+    has_impossible: bool,
 }
 
 impl<const K: usize> Model for Apps<K> {
-    ghost use Rattle.std.specs.Prelude.{map, vec_capacity};
-    ghost use Rattle.cap_asks.specs.Apps.{HeldApps, AreIndexed, entries_at, held_at};
+    ghost use Rattle.std.specs.Prelude.{◌≡◌, [], false, map, vec_capacity};
+    ghost use Rattle.cap_asks.specs.Apps.{HeldApps, AreIndexed, entries_at, held_at, impossible_in};
 
     ghost Value = { HeldApps };
 
@@ -47,10 +50,13 @@ impl<const K: usize> Model for Apps<K> {
         next = t.next;
       };
       accounts = map (λ e. (e.0, e.1.account)) (entries_at (held_at t.apps) t.index.entries);
+      impossible = impossible_in (entries_at (held_at t.apps) t.index.entries);
     } };
 
     ghost invariant = { λ t. AreIndexed (held_at t.apps) t.index.entries t.next
-        t.waiting.items (vec_capacity t.waiting) };
+        t.waiting.items (vec_capacity t.waiting)
+        × (t.has_impossible ≡ false →
+        impossible_in (entries_at (held_at t.apps) t.index.entries) ≡ []) };
 }
 
 impl<const K: usize> Apps<K> {
@@ -58,6 +64,7 @@ impl<const K: usize> Apps<K> {
     pub fn new(alloc: Global) -> Apps<K>
         ensures table { result.table ≡ no_apps }
         ensures accounts { result.accounts ≡ [] }
+        ensures impossible { result.impossible ≡ [] }
     {
         Apps {
             alloc,
@@ -65,6 +72,7 @@ impl<const K: usize> Apps<K> {
             apps: Slab::new(alloc),
             waiting: Vec::new(alloc),
             next: 1,
+            has_impossible: false,
         }
     }
 
@@ -82,6 +90,7 @@ impl<const K: usize> Apps<K> {
         ensures accounts { OnOk result (Enters position.items self.old self.new) }
         ensures table_stays { OnErr result (self.new.table ≡ self.old.table) }
         ensures accounts_stay { OnErr result (self.new.accounts ≡ self.old.accounts) }
+        ensures impossible { AreAmong self.new.impossible self.old.impossible }
     {
         let more = self.index.len() - self.waiting.len() + 1;
         let Ok(()) = self.waiting.reserve(more) else {
@@ -110,6 +119,7 @@ impl<const K: usize> Apps<K> {
         ensures accounts { (number : ℕ) (account : Account) (accounts : List (ℕ × Account)) →
             self.old.accounts ≡ accounts ++ (number, account) ∷ []
             → self.new.accounts ≡ accounts }
+        ensures impossible { AreAmong self.new.impossible self.old.impossible }
     {
         let Some((number, slot)) = self.index.pop_last() else {
             return;
@@ -184,6 +194,8 @@ impl<const K: usize> Apps<K> {
         ensures found { option_map (λ app. app.now.app) result ≡ app_in self.now.table n }
         ensures account { option_map (λ app. app.now.account) result
             ≡ account_of n self.now.accounts }
+        ensures impossible { IfSome result
+            (λ app. AreAmong app.now.impossible self.now.impossible) }
     {
         let slot = *self.index.get(&n)?;
         Some(&self.apps[slot])
@@ -195,7 +207,9 @@ impl<const K: usize> Apps<K> {
         requires { CanChange change n self.old.accounts }
         ensures table { self.new.table ≡ change_app n (changed_by change.entry) self.old.table }
         ensures accounts { Uses (used_by change.entry) n self.old.accounts self.new.accounts }
+        ensures impossible { Marks change.entry self.old.impossible self.new.impossible }
     {
+        self.has_impossible = self.has_impossible | change.is_impossible();
         let Some(&slot) = self.index.get(&n) else {
             return;
         };
@@ -214,6 +228,7 @@ impl<const K: usize> Apps<K> {
         ensures table { self.new.table ≡
             change_app n (λ app. record app { registered = true }) self.old.table }
         ensures accounts { UsesRoom n 0 0 0 self.old.accounts self.new.accounts }
+        ensures impossible { AreAmong self.new.impossible self.old.impossible }
     {
         self.change(n, Change::Register);
     }
@@ -226,6 +241,7 @@ impl<const K: usize> Apps<K> {
         ensures stays { UsesRoom n 0 0 0 self.old.accounts self.new.accounts }
         ensures ok { OnOk result (HasRooms n asks grants ends self.new.accounts) }
         ensures succeeds { HasRooms n asks grants ends self.old.accounts → IsOk result }
+        ensures impossible { AreAmong self.new.impossible self.old.impossible }
     {
         let Some(&slot) = self.index.get(&n) else {
             unreachable!()
@@ -246,14 +262,15 @@ impl<const K: usize> Apps<K> {
         }
     }
 
-    /// Puts an ask of an application in place of the one of its key, or in order of key; a count of 0 takes the key away. It needs
-    /// room that `room` made.
-    pub fn put_ask(&mut self, n: u64, ask: &Ask<K>)
+    /// Puts an ask of an application in place of the one of its key, or in order of key; a count of 0 takes the key away. It is
+    /// impossible, where no node that is present could take it, or may be possible. It needs room that `room` made.
+    pub fn put_ask(&mut self, n: u64, ask: &Ask<K>, impossible: bool)
         requires { 1 ≤ ask_room n self.old.accounts }
         ensures table { self.new.table ≡ change_app n (with_ask_put ask.now) self.old.table }
         ensures accounts { UsesRoom n 1 0 0 self.old.accounts self.new.accounts }
+        ensures impossible { AreAmongOr ask.now impossible self.new.impossible self.old.impossible }
     {
-        self.change(n, Change::PutAsk(ask));
+        self.change(n, Change::PutAsk(ask, impossible));
     }
 
     /// One container less is wanted for this key of an application; an ask that comes to 0 is taken out. Where there is no such application
@@ -261,6 +278,7 @@ impl<const K: usize> Apps<K> {
     pub fn take_one(&mut self, n: u64, key: &Key)
         ensures table { self.new.table ≡ change_app n (with_one_less key.now) self.old.table }
         ensures accounts { UsesRoom n 0 0 0 self.old.accounts self.new.accounts }
+        ensures impossible { AreAmong self.new.impossible self.old.impossible }
     {
         self.change(n, Change::TakeOne(key));
     }
@@ -273,6 +291,7 @@ impl<const K: usize> Apps<K> {
         ensures table { self.new.table ≡
             change_app n (with_waiting_grant grant.now) self.old.table }
         ensures accounts { UsesRoom n 0 1 0 self.old.accounts self.new.accounts }
+        ensures impossible { AreAmong self.new.impossible self.old.impossible }
     {
         self.change(n, Change::AddGrant(grant));
     }
@@ -282,8 +301,22 @@ impl<const K: usize> Apps<K> {
         requires { 1 ≤ live_of n self.old.accounts }
         ensures table { self.new.table ≡ change_app n (with_waiting_end end.now) self.old.table }
         ensures accounts { UsesRoom n 0 0 1 self.old.accounts self.new.accounts }
+        ensures impossible { AreAmong self.new.impossible self.old.impossible }
     {
         self.change(n, Change::AddEnd(end));
+    }
+
+    /// A node of this host, rack and total in MiB, vcores and GPUs has come: each impossible ask that it could take may be possible from
+    /// now on. It looks at all applications where one has such an ask, and else at none.
+    pub fn node_came(&mut self, host: &ShortText, rack: &ShortText, total: &Resource<K>)
+        ensures table { self.new.table ≡ self.old.table }
+        ensures accounts { self.new.accounts ≡ self.old.accounts }
+        ensures impossible { AreLeftBy host.now rack.now total.now self.new.impossible self.old.impossible }
+    {
+        if !self.has_impossible {
+            return;
+        }
+        self.has_impossible = node_came_to(&mut self.apps, host, rack, total);
     }
 
     /// Reports to the master of an application the oldest grants and ends that wait, at most 64 of each: the response id moves on, and
@@ -293,6 +326,7 @@ impl<const K: usize> Apps<K> {
         ensures table { self.new.table ≡ change_app n (after_next_reply ignored) self.old.table }
         ensures accounts { UsesRoom n 0 0 0 self.old.accounts self.new.accounts }
         ensures told { IsSome (app_in self.old.table n) → KeepsNumbers n self.new.table result }
+        ensures impossible { AreAmong self.new.impossible self.old.impossible }
     {
         let Some(&slot) = self.index.get(&n) else {
             return Reported {
@@ -328,6 +362,7 @@ impl<const K: usize> Apps<K> {
     pub fn finish(&mut self, n: u64)
         ensures table { self.new.table ≡ remove_app n self.old.table }
         ensures accounts { IsLeft n self.old.accounts self.new.accounts }
+        ensures impossible { AreAmong self.new.impossible self.old.impossible }
     {
         let Some(slot) = self.index.remove(&n) else {
             return;
@@ -335,6 +370,27 @@ impl<const K: usize> Apps<K> {
         self.apps.try_remove(slot);
         set_waiting(&mut self.waiting, n, slot, false);
     }
+}
+
+/// Tells each application that a node of this host, rack and total has come. The result is whether one has an impossible ask then.
+fn node_came_to<const K: usize>(
+    apps: &mut Slab<Box<App<K>>>,
+    host: &ShortText,
+    rack: &ShortText,
+    total: &Resource<K>,
+) -> bool
+    ensures { AreAfterNode host.now rack.now total.now (held_at apps.old) (held_at apps.new)
+        result }
+{
+    let mut has_impossible = false;
+    for slot in 0..apps.capacity() {
+        if apps.contains(slot) {
+            let app = &mut *apps[slot];
+            app.node_came(host, rack, total);
+            has_impossible = has_impossible | app.has_impossible();
+        }
+    }
+    has_impossible
 }
 
 /// The entries of those that wait, in order of number, with that of this number, or without it. It costs one binary search.

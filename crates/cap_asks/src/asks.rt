@@ -2,12 +2,17 @@
 ghost use Rattle.std.specs.Prelude.{◌≡◌, ◌+◌, ◌-◌, ◌≤◌, ◌∷◌, [], false, true, is_some, if◌then◌else◌, length, nat_lt, take, cond, not, ◌==◌, OnOk, IsOk, IfOk, IfErr};
 ghost use Rattle.std.specs.List.{fold};
 ghost use Rattle.cap_model.specs.Flat.{ask_at};
+ghost use Rattle.cap_model.specs.Asks.{Ask as AskValue};
 ghost use Rattle.cap_model.specs.Asking.{put_ask};
 ghost use Rattle.cap_base.specs.Limits.{keys_max};
 ghost use Rattle.cap_model.specs.Events.{take_one};
 ghost use Rattle.cap_asks.specs.Accounts.{AreKept, is_before, IsKeyIndex, key_slot};
+ghost use Rattle.cap_asks.specs.Impossible.{AreAmong, AreAmongOr, AreLeftBy, WantAmong, could_take, want_of};
+ghost use Rattle.cap_base.specs.Members.{IsIn};
 
-use cap_model::{Ask, Key, NoMemory};
+use crate::marks::Marks;
+use cap_model::{Ask, Key, NoMemory, ShortText, takes_place};
+use cap_vector::{Resource, fits};
 use std::alloc::Global;
 use std::marker::Model;
 
@@ -17,34 +22,40 @@ const KEYS_MAX: u128 = 256;
 /// How many slots keys have (`slot_of`).
 const SLOTS: usize = 4096;
 
-/// The asks of one application in order of key, each for at least one container. Contracts see their list, and how many more
-/// keys fit with no memory.
+/// The asks of one application in order of key, each for at least one container, and which of them are impossible: no node that is
+/// present could take one, not even one that is empty. Contracts see their list, how many more keys fit with no memory, and what the
+/// impossible ones want.
 #[derive(Drop)]
 pub(crate) struct Asks<const K: usize> {
     items: Vec<Ask<K>>,
+    impossible: Marks,
 }
 
 impl<const K: usize> Model for Asks<K> {
-    ghost use Rattle.std.specs.Prelude.{◌-◌, vec_len, vec_capacity};
+    ghost use Rattle.std.specs.Prelude.{◌≡◌, ◌-◌, length, min, vec_len, vec_capacity};
     ghost use Rattle.cap_asks.specs.Accounts.{HeldAsks, AreKept};
+    ghost use Rattle.cap_asks.specs.Impossible.{wants_marked};
 
     ghost Value = { HeldAsks };
 
     ghost view = { λ a. record {
       asks = a.items.items;
-      room = vec_capacity a.items - vec_len a.items;
+      room = min (vec_capacity a.items - vec_len a.items) a.impossible.room;
+      impossible = wants_marked a.impossible.marks a.items.items;
     } };
 
-    ghost invariant = { λ a. AreKept a.items.items };
+    ghost invariant = { λ a. AreKept a.items.items
+        × (length a.impossible.marks ≡ length a.items.items) };
 }
 
 impl<const K: usize> Asks<K> {
     /// No ask. It takes no memory.
     pub(crate) fn new(alloc: Global) -> Asks<K>
-        ensures { result ≡ record { asks = []; room = 0 } }
+        ensures { result ≡ record { asks = []; room = 0; impossible = [] } }
     {
         Asks {
             items: Vec::new(alloc),
+            impossible: Marks::new(alloc),
         }
     }
 
@@ -76,10 +87,12 @@ impl<const K: usize> Asks<K> {
     /// Makes room for so many more keys. `NoMemory` changes nothing, and does not come where there is room.
     pub(crate) fn reserve(&mut self, additional: usize) -> Result<(), NoMemory>
         ensures asks { self.new.asks ≡ self.old.asks }
+        ensures impossible { self.new.impossible ≡ self.old.impossible }
         ensures stays { self.old.room ≤ self.new.room }
         ensures ok { OnOk result (additional ≤ self.new.room) }
         ensures succeeds { additional ≤ self.old.room → IsOk result }
     {
+        self.impossible.reserve(additional)?;
         match self.items.reserve(additional) {
             Ok(()) => Ok(()),
             Err(_) => Err(NoMemory),
@@ -110,23 +123,30 @@ impl<const K: usize> Asks<K> {
         }
     }
 
-    /// Puts an ask in place of the one of its key, or in order of key; a count of 0 takes the key away.
-    pub(crate) fn put(&mut self, ask: &Ask<K>)
+    /// Puts an ask, which is impossible or may be possible, in place of the one of its key, or in order of key; a count of 0 takes the key
+    /// away.
+    pub(crate) fn put(&mut self, ask: &Ask<K>, impossible: bool)
         requires { is_some (ask_at ask.now.key self.old.asks) ≡ false → 1 ≤ self.old.room }
         ensures asks { self.new.asks ≡ put_ask ask.now self.old.asks }
         ensures room { self.old.room ≤
             self.new.room + (if is_some (ask_at ask.now.key self.old.asks) then 0 else 1) }
+        ensures impossible { AreAmongOr ask.now impossible self.new.impossible self.old.impossible }
     {
         match (self.index_of(&ask.key()), ask.count() == 0) {
             (Ok(index), true) => {
                 self.items.remove(index);
+                self.impossible.remove(index);
             }
-            (Ok(index), false) => self.items[index] = *ask,
+            (Ok(index), false) => {
+                self.items[index] = *ask;
+                self.impossible.set(index, impossible);
+            }
             (Err(_), true) => {}
             (Err(index), false) => {
                 let Ok(()) = self.items.insert(index, *ask) else {
                     unreachable!()
                 };
+                self.impossible.insert(index, impossible);
             }
         }
     }
@@ -135,15 +155,57 @@ impl<const K: usize> Asks<K> {
     pub(crate) fn take_one(&mut self, key: &Key)
         ensures asks { self.new.asks ≡ take_one key.now self.old.asks }
         ensures room { self.old.room ≤ self.new.room }
+        ensures impossible { AreAmong self.new.impossible self.old.impossible }
     {
         let Ok(index) = self.index_of(key) else {
             return;
         };
-        let ask = self.items[index];
+        let items = self.items.as_slice();
+        let ask = &items[index];
         if ask.count() == 1 {
             self.items.remove(index);
+            self.impossible.remove(index);
         } else {
-            self.items[index] = ask.with_count(ask.count() - 1);
+            let less = ask.with_count(ask.count() - 1);
+            self.items[index] = less;
+        }
+    }
+
+    /// The index of the first ask from `from` on that may be possible, their number where none is.
+    pub(crate) fn next_possible(&self, from: usize) -> usize
+        requires { from ≤ length self.now.asks }
+        ensures { WantAmong self.now.impossible self.now.asks from result }
+    {
+        self.impossible.next_clear(from)
+    }
+
+    /// Whether all are impossible.
+    pub(crate) fn are_impossible(&self) -> bool
+        ensures { result ≡ true → (ask : AskValue) → IsIn ask self.now.asks
+            → IsIn (want_of ask) self.now.impossible }
+    {
+        self.impossible.count() == self.items.len()
+    }
+
+    /// Whether one is impossible.
+    pub(crate) fn has_impossible(&self) -> bool
+        ensures { result ≡ false → self.now.impossible ≡ [] }
+    {
+        self.impossible.count() != 0
+    }
+
+    /// A node of this host, rack and total in MiB, vcores and GPUs has come: each ask that it could take may be possible from now on.
+    pub(crate) fn node_came(&mut self, host: &ShortText, rack: &ShortText, total: &Resource<K>)
+        ensures asks { self.new.asks ≡ self.old.asks }
+        ensures room { self.new.room ≡ self.old.room }
+        ensures impossible { AreLeftBy host.now rack.now total.now self.new.impossible self.old.impossible }
+    {
+        for index in 0..self.items.len() {
+            let items = self.items.as_slice();
+            let ask = &items[index];
+            if could_take(ask, host, rack, total) {
+                self.impossible.set(index, false);
+            }
         }
     }
 
@@ -188,6 +250,18 @@ impl<const K: usize> Asks<K> {
         }
         KEYS_MAX < count
     }
+}
+
+/// Whether a node of this host, rack and total in MiB, vcores and GPUs could take an ask while it is empty.
+fn could_take<const K: usize>(
+    ask: &Ask<K>,
+    host: &ShortText,
+    rack: &ShortText,
+    total: &Resource<K>,
+) -> bool
+    ensures { result ≡ could_take (want_of ask.now) host.now rack.now total.now }
+{
+    takes_place(&ask.place(), host, rack) && fits(&ask.resource(), total)
 }
 
 /// Whether one key is before another: the smaller priority first, then the smaller allocation request id.

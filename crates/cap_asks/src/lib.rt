@@ -6,6 +6,7 @@ mod apps;
 mod asks;
 mod change;
 mod least;
+mod marks;
 mod news;
 mod waiting;
 

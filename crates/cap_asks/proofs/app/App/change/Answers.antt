@@ -8,3 +8,9 @@ invariant_of-self-in-TakeOne g c = (
   c.self.invariant.1,
   subst (WantAtLeast c.self.inside.least) (sym c.take_one.ensures.asks) (taken_wants c.self.inside.least c.in-TakeOne.key.now c.self.inside.asks.asks c.self.invariant.2),
 )
+
+pub returns-in-PutAsk-clause-impossible : goal.returns-in-PutAsk-clause-impossible
+returns-in-PutAsk-clause-impossible g c = rw (c.in-PutAsk.is, ← c.self.view_is) c.put.ensures.impossible
+
+pub returns-in-TakeOne-clause-impossible : goal.returns-in-TakeOne-clause-impossible
+returns-in-TakeOne-clause-impossible g c = rw (c.in-TakeOne.is, ← c.self.view_is) c.take_one.ensures.impossible

@@ -21,14 +21,14 @@ loop-index-preserved g c =
 
 pub nth_waiting-app-requires : goal.nth_waiting-app-requires
 nth_waiting-app-requires g c =
-    let all = waiters_count c.self.invariant in
+    let all = waiters_count c.self.invariant.0 in
     let count = c.len-count.ensures in
     let more = c.loop-index-test.true in
     (omega arith, (omega arith, rw (← c.self.view_is) (omega (arith, all, count, more))))
 
 pub returns-clause-apps : goal.returns-clause-apps
 returns-clause-apps g c =
-    let all = waiters_count c.self.invariant in
+    let all = waiters_count c.self.invariant.0 in
     let count = c.len-count.ensures in
     let end = c.loop-index-test.false in
     c.loop-index.invariant.apps ∙ take_all c.loop-index.index (waiting_of c.args.self.now.table.active) (rw (← c.self.view_is) (omega (arith, all, count, end)))

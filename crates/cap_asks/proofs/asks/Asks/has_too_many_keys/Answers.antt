@@ -8,7 +8,7 @@ use Rattle.cap_asks.proofs.asks.Asks.has_too_many_keys.Goals.{then-is_taken-slot
 
 pub returns-then-count-asks-le-KEYS_MAX : goal.returns-then-count-asks-le-KEYS_MAX
 returns-then-count-asks-le-KEYS_MAX g c =
-    let kept : AreKept c.args.self.now.asks = rw (← c.self.view_is) c.self.invariant in
+    let kept : AreKept c.args.self.now.asks = rw (← c.self.view_is) c.self.invariant.0 in
     let seen = ap (λ (a : HeldAsks). length a.asks) c.self.view_is in
     not_too_many c.args.self.now.asks c.args.asks.now kept (omega (arith, seen))
 
@@ -19,7 +19,7 @@ loop-i-init g c =
 
 pub overflow_add-count-in-loop-i : goal.overflow_add-count-in-loop-i
 overflow_add-count-in-loop-i g c =
-    let kept : AreKept c.args.self.now.asks = rw (← c.self.view_is) c.self.invariant in
+    let kept : AreKept c.args.self.now.asks = rw (← c.self.view_is) c.self.invariant.0 in
     let few = few_all c.args.self.now.asks (take c.loop-i.i c.args.asks.now) kept in
     let seen = ap (λ (a : HeldAsks). length a.asks) c.self.view_is in
     let is = c.loop-i.invariant.count in
@@ -38,7 +38,7 @@ module _ (g : Over) (c : goal.After-count-stands g) where
 
   is_counted : c.loop-i.count + bool_byte (not (c.count-stands.result == 0)) ≡ length (put_all c.args.self.now.asks (take (c.loop-i.i + 1) c.args.asks.now)) + bool_byte c.stands_after-stood.result
   is_counted = count_next c.args.self.now.asks c.args.asks.now c.loop-i.i c.index-asks-i.result c.key-key.result c.count-stands.result c.loop-i.count c.stands_after-stood.result
-      (rw (← c.self.view_is) c.self.invariant) c.loop-i-test.true c.index-asks-i.is c.key-key.ensures c.loop-i.invariant.count stood_is c.count-stands.ensures
+      (rw (← c.self.view_is) c.self.invariant.0) c.loop-i-test.true c.index-asks-i.is c.key-key.ensures c.loop-i.invariant.count stood_is c.count-stands.ensures
 
 pub overflow_sub-count : goal.overflow_sub-count
 overflow_sub-count g c = let is = is_counted g c in omega (arith, is)

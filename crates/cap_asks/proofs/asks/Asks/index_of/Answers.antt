@@ -10,7 +10,7 @@ loop-low-init g c =
 
 pub loop-low-preserved-then-is_before : goal.loop-low-preserved-then-is_before
 loop-low-preserved-then-is_before g c =
-    let kept : AreKept c.as_slice-items.result.now = rw c.as_slice-items.ensures.value c.self.invariant in
+    let kept : AreKept c.as_slice-items.result.now = rw c.as_slice-items.ensures.value c.self.invariant.0 in
     let before = sym c.is_before.ensures ∙ c.if-is_before.true in
     let later = is_later c.args.key.now c.as_slice-items.result.now (c.loop-low.low + (c.loop-low.high - c.loop-low.low) / 2) c.index-items-middle.result kept (omega arith) (ap (λ (a : Ask). is_before a.key c.args.key.now) (sym c.index-items-middle.is) ∙ ap (λ k. is_before k c.args.key.now) (sym c.key.ensures) ∙ before) in
     record { low = omega (arith, later); high = c.loop-low.invariant.high; within = c.loop-low.invariant.within }
@@ -29,7 +29,7 @@ returns-then-is_same-clause-ok g c =
 
 pub returns-else-low-items-clause-err : goal.returns-else-low-items-clause-err
 returns-else-low-items-clause-err g c =
-    let kept : AreKept c.as_slice-items.result.now = rw c.as_slice-items.ensures.value c.self.invariant in
+    let kept : AreKept c.as_slice-items.result.now = rw c.as_slice-items.ensures.value c.self.invariant.0 in
     let same = c.as_slice-items.ensures.value ∙ ap (λ (a : HeldAsks). a.asks) c.self.view_is in
     let at : c.loop-low.low ≡ index_of c.args.key.now c.as_slice-items.result.now = omega arith in
     elim c.else-low-items.branch [
