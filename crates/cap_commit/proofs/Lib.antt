@@ -8,6 +8,7 @@ pub mod Seen
 pub mod Holding
 pub mod Numbers
 pub mod Rooms
+pub mod Reach
 pub mod Waiting
 pub mod Followed
 pub mod Ending

@@ -13,6 +13,7 @@ pub use Rattle.std.specs.Option.{option_map_or, option_or}
 pub use Rattle.std.specs.Prelude.{Err, IfOk, IfSome, IsSome, IsTrue, Ok, OnErr, Result, bytes_eq, count_by, filter, find, if◌then◌else◌, is_none, is_some, max, nat_eq, nat_le, nat_lt, not, option_and_then, option_map, position, slice_index_or, unwrap_or, ◌&&◌, ◌==◌, ◌||◌, ◌↔◌}
 pub use Rattle.cap_asks.specs.Accounts.{Account, HeldApp}
 pub use Rattle.cap_asks.specs.Apps.{HasRooms, HeldApps, IsEntered, IsLeft, UsesRoom, account_of, ask_room, kept_of, live_of, new_account, position_of}
+pub use Rattle.cap_asks.specs.Impossible.{AreAmong, AreAmongOr, AreLeftBy, Want}
 pub use Rattle.cap_base.proofs.Amounts.{amount_of, amounts_fit, fits_amounts}
 pub use Rattle.cap_base.proofs.lists.Filters.{filter_none, filter_whole, find_mapped_at, length-kept, map_twice}
 pub use Rattle.cap_base.proofs.lists.Members.{IsIn, each_of, found, in_either, in_filter, in_map, none_in, of_each, of_filter, of_map}
@@ -30,7 +31,7 @@ pub use Rattle.cap_base.specs.Settings.{QueueRow, Settings}
 pub use Rattle.cap_base.specs.Trees.{HasDistinctPaths}
 pub use Rattle.cap_base.specs.declared.no_memory.NoMemory.{NoMemory}
 pub use Rattle.cap_commit.specs.Admission.{limit_tests, load_sight, own_reservation, size_tests, taken_back}
-pub use Rattle.cap_commit.specs.ClusterState.{AreConsistent, ClusterState, IsCluster, IsInLeaf, IsRowOf, IsWaitedAt, Parts, flat_of, numbers_of, of_cluster, waits_where}
+pub use Rattle.cap_commit.specs.ClusterState.{AreConsistent, AreOutOfReach, ClusterState, IsCluster, IsInLeaf, IsRowOf, IsWaitedAt, Parts, flat_of, numbers_of, of_cluster, waits_where}
 pub use Rattle.cap_commit.specs.Owners.{containers_owned, owns}
 pub use Rattle.cap_commit.specs.declared.limits.Limits.{Limits}
 pub use Rattle.cap_laws.proofs.bounds.Formed.{unrefused_leaf}
@@ -64,12 +65,12 @@ pub use Rattle.cap_model.specs.Bounds.{AreApart, IsLeaf}
 pub use Rattle.cap_model.specs.Ending.{after_ends, complete, is_among, with_ends, without_containers}
 pub use Rattle.cap_model.specs.Events.{add_reservation, after_grant, after_reserve, launch, news_of, take_one}
 pub use Rattle.cap_model.specs.FinishMaster.{after_finish_master, remove_app}
-pub use Rattle.cap_model.specs.Flat.{App, AppTable, ClusterNode, Container, Flat, NodeTable, Reservation, app_at, app_in, change_app, containers_of, containers_on, is_for, node_at, node_in, queue_at, reservation_on, with_reserved}
+pub use Rattle.cap_model.specs.Flat.{App, AppTable, ClusterNode, Container, Flat, NodeTable, Reservation, app_at, app_in, change_app, change_node, containers_of, containers_on, is_for, node_at, node_in, queue_at, reservation_on, with_reserved}
 pub use Rattle.cap_model.specs.News.{AllocateReply, Grant}
 pub use Rattle.cap_model.specs.NodeGone.{remove_node}
 pub use Rattle.cap_model.specs.QueueCalls.{queue_report}
 pub use Rattle.cap_model.specs.Refresh.{refreshed_queue}
-pub use Rattle.cap_model.specs.RegisterNode.{sum_of_totals}
+pub use Rattle.cap_model.specs.RegisterNode.{add_node, new_node, sum_of_totals}
 pub use Rattle.cap_model.specs.Reporting.{HasNumbers, HasRoomForReplies, IfAllocate, IsNoAllocate, NewsRoom, full_reply, news_most, no_news, reported_of, reports_most}
 pub use Rattle.cap_model.specs.Sight.{AppSight, NodeSight, QueueSight, Sight, app_sight, node_sight, queue_sight, queues_to, seen_app, seen_node, seen_queue, sight_of, still_wanted}
 pub use Rattle.cap_model.specs.Submit.{add_app, new_app, submit_refusal}
@@ -87,7 +88,7 @@ pub use Rattle.cap_model.specs.declared.report.QueueReport.{QueueReport}
 pub use Rattle.cap_model.specs.declared.request.Request.{Request}
 pub use Rattle.cap_nodes.proofs.Dropping.{all_elsewhere, is_elsewhere, others_elsewhere}
 pub use Rattle.cap_nodes.specs.Loads.{Load, made_after}
-pub use Rattle.cap_nodes.specs.Tables.{IsLoadIn, IsSound, free_on}
+pub use Rattle.cap_nodes.specs.Tables.{IsLoadIn, IsSound, could_take, free_on}
 pub use Rattle.cap_tree.proofs.Listings.{any_kept, path_kept, same_path, set_running, settings_stay, state_in_settings}
 pub use Rattle.cap_tree.proofs.OneUser.{count_where, moved_own, some_row}
 pub use Rattle.cap_tree.proofs.RowPaths.{at_position}

@@ -1,10 +1,11 @@
 -- What a cluster keeps: its parts, the flat cluster that they are, and what they have to do with each other.
-use Rattle.std.specs.Prelude.{◌≡◌, ℕ, ◌≤◌, ◌&&◌, ◌==◌, IsSome, Bool, List, filter, length, map, count_by, bytes_eq}
+use Rattle.std.specs.Prelude.{◌≡◌, ℕ, ◌≤◌, ◌&&◌, ◌==◌, IsSome, Bool, false, List, filter, length, map, count_by, bytes_eq}
 use Rattle.std.specs.List.{All}
 use Rattle.cap_laws.specs.Reservations.{AreReserved}
 use Rattle.cap_vector.specs.Vector.{amount}
 use Rattle.cap_base.specs.Limits.{applications_max, resources_max, live_max}
-use Rattle.cap_model.specs.Flat.{Flat, App, NodeTable, app_at}
+use Rattle.cap_model.specs.Flat.{Flat, App, ClusterNode, NodeTable, app_at}
+use Rattle.cap_base.specs.Members.{IsIn}
 use Rattle.cap_base.specs.Paths.{is_under}
 use Rattle.cap_model.specs.Uses.{queue_use, user_use}
 use Rattle.cap_model.specs.Bounds.{IsLeaf}
@@ -14,6 +15,8 @@ use Rattle.cap_tree.specs.Queue.{of_user}
 use Rattle.cap_tree.specs.Rows.{Row, IsAt, queues_of}
 use Rattle.cap_asks.specs.Accounts.{Account}
 use Rattle.cap_asks.specs.Apps.{HeldApps, is_waiting, live_of, position_of}
+use Rattle.cap_asks.specs.Impossible.{Want}
+use Rattle.cap_nodes.specs.Tables.{could_take}
 use Rattle.cap_commit.specs.declared.limits.Limits.{Limits}
 
 -- a cluster as contracts see it: the flat cluster, and beside it the rows of the tree and the accounts of the applications
@@ -41,6 +44,10 @@ waits_where leaf app = leaf app.leaf && is_waiting app
 pub record IsWaitedAt (apps : List App) (r : Row) : Type 0 where
   pub numbers : r.item.waiting ≡ numbers_of (waits_where (bytes_eq r.path)) apps
   pub count : r.item.waits ≡ count_by (waits_where (is_under r.path)) apps
+
+-- each of these wants is out of reach: none of these nodes could take it, not even one that is empty
+abbrev pub AreOutOfReach : List ClusterNode → List Want → Type 0
+AreOutOfReach nodes wants = (want : Want) → IsIn want wants → All (λ node. could_take want.place want.resource node ≡ false) nodes
 
 module _ {K : ℕ} where
   -- the flat cluster of these parts
@@ -97,7 +104,8 @@ module _ {K : ℕ} where
     pub few_live : length p.nodes.live ≤ live_max
     pub resources : K ≤ resources_max
 
-  -- and the tree knows which applications wait
+  -- and the tree knows which applications wait, and an ask is known as impossible only where no present node could take it
   pub record IsCluster (p : Parts K) : Type 0 where
     pub consistent : AreConsistent p
     pub waiting : All (IsWaitedAt p.apps.table.active) p.rows
+    pub impossible : AreOutOfReach p.nodes.present p.apps.impossible

@@ -21,7 +21,7 @@ ghost use Rattle.cap_model.specs.Heartbeat.{after_beat};
 ghost use Rattle.cap_tree.specs.Rows.{IsAt, queues_of};
 ghost use Rattle.cap_tree.specs.Spot.{IsPosition, path_at};
 ghost use Rattle.cap_asks.specs.Apps.{KeepsNumbers, ask_room, HasRooms, UsesRoom, position_of};
-ghost use Rattle.cap_commit.specs.ClusterState.{IsRowOf, IsWaitedAt};
+ghost use Rattle.cap_commit.specs.ClusterState.{AreOutOfReach, IsRowOf, IsWaitedAt};
 ghost use Rattle.cap_laws.specs.Reservations.{kept_by_ask};
 ghost use Rattle.cap_commit.specs.Owners.{TakesEndRoom, TakesLeaver, owns, containers_owned, containers_named};
 
@@ -127,13 +127,15 @@ impl<const K: usize> Cluster<K> {
         &self.limits
     }
 
-    /// Its active applications. Each knows where its leaf is in the tree.
+    /// Its active applications. Each knows where its leaf is in the tree. What their impossible asks want could be taken by no node that
+    /// is present.
     pub fn apps(&self) -> &Apps<K>
         ensures table { result.now.table ≡ self.now.flat.apps }
         ensures accounts { result.now.accounts ≡ self.now.accounts }
         ensures placed { All
             (λ app. IsAt self.now.rows app.leaf (position_of app.number self.now.accounts))
             result.now.table.active }
+        ensures impossible { AreOutOfReach self.now.flat.nodes.present result.now.impossible }
         ensures few { length self.now.flat.apps.active ≤ applications_max }
         ensures resources { K ≤ resources_max }
     {
@@ -278,7 +280,8 @@ impl<const K: usize> Cluster<K> {
         self.drop_unwanted(number, &ask);
         self.apps.numbers_rise();
         let waited = waits(&self.apps, number);
-        self.apps.put_ask(number, &ask);
+        let impossible = !self.nodes.may_take(&ask.place(), &ask.resource());
+        self.apps.put_ask(number, &ask, impossible);
         let tree = &mut *self.tree;
         follow_app(tree, &self.apps, number, waited);
     }
@@ -420,7 +423,9 @@ impl<const K: usize> Cluster<K> {
         ensures rows { self.new.rows ≡ self.old.rows }
         ensures accounts { self.new.accounts ≡ self.old.accounts }
     {
-        self.nodes.register(host, rack, total)
+        let number = self.nodes.register(host, rack, total)?;
+        self.apps.node_came(host, rack, total);
+        Ok(number)
     }
 
     /// A present node has answered a heartbeat, in which so many named containers were not live there, and keeps the reply, which is

@@ -5,3 +5,6 @@ returns-clause-few g c = rw (← c.self.view_is) c.self.invariant.consistent.few
 
 pub returns-clause-resources : goal.returns-clause-resources
 returns-clause-resources g c = c.self.invariant.consistent.resources
+
+pub returns-clause-impossible : goal.returns-clause-impossible
+returns-clause-impossible g c = rw (← c.self.view_is) c.self.invariant.impossible

@@ -1,11 +1,12 @@
 use Rattle.cap_commit.proofs.Fitting.{in_cluster, nodes_in_cluster}
-use Rattle.cap_commit.proofs.Prelude.{[], ◌∷◌, ◌++◌, refl, ap, sym, ◌∙◌, map, arith, queues_of, lowered_row, path_at, change_app, zero_count, use_alone, subst, UsesRoom}
+use Rattle.cap_commit.proofs.Prelude.{[], ◌∷◌, ◌++◌, refl, ap, sym, ◌∙◌, map, arith, queues_of, lowered_row, path_at, change_app, zero_count, use_alone, subst, UsesRoom, NodeTable}
 use Rattle.cap_commit.proofs.Ending.{has_owner, some_live, may_give_back, held_ended, ended_is}
 use Rattle.cap_commit.proofs.Holding.{placed_at, position_is}
 use Rattle.cap_commit.proofs.Moving.{moved_settings}
 use Rattle.cap_commit.proofs.Sizes.{tree_fits}
 use Rattle.cap_commit.proofs.Followed.{waited_table}
 use Rattle.cap_commit.proofs.Waiting.{moved_keeps, waited_rows}
+use Rattle.cap_commit.proofs.Reach.{no_more_wanted, nodes_same}
 use Rattle.cap_commit.proofs.cluster.Cluster.end.Goals as goal
 
 pub unreachable-requires : goal.unreachable-requires
@@ -52,6 +53,9 @@ invariant_of-self g c =
       waiting =
           waited_table c.app-3.result _ (record { number = λ a. refl; leaf = λ a. refl; user = λ a. refl }) (λ a. refl) x.apps.table c.add_end.new.self.table _ c.add_end.ensures.table
           (waited_rows _ (moved_keeps g.row.K app.leaf app.user (use_alone one.resource) (zero_count g.row.K)) x.apps.table.active x.tree.value c.self.invariant.waiting);
+      impossible =
+          nodes_same x.nodes.present c.lift.new.self.present c.add_end.new.self.impossible (ap (λ (t : NodeTable). t.present) c.lift.ensures)
+          (no_more_wanted x.nodes.present x.apps.impossible c.add_end.new.self.impossible c.add_end.ensures.impossible c.self.invariant.impossible);
     })
 
 pub returns-clause-ended : goal.returns-clause-ended

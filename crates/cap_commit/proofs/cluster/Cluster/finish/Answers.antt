@@ -10,6 +10,7 @@ use Rattle.cap_commit.proofs.RowsAt.{still_at}
 use Rattle.cap_commit.specs.Waiting.{followed_row}
 use Rattle.cap_asks.specs.Apps.{is_waiting}
 use Rattle.cap_commit.specs.Owners.{TakesEndRoom}
+use Rattle.cap_commit.proofs.Reach.{no_more_wanted}
 use Rattle.cap_commit.proofs.cluster.Cluster.finish.Goals as goal
 
 pub unreachable-requires : goal.unreachable-requires
@@ -89,6 +90,7 @@ invariant_of-self g c =
           waited_same_table (remove_app c.args.number x.apps.table) c.finish.new.self.table _ c.finish.ensures.table
           (waited_rows _ (moved_keeps g.row.K app.leaf app.user (one_app g.row.K) (zero_count g.row.K)) _ after.rows
           (waited_left x.apps.table.active x.apps.table.next c.args.number app c.numbers_rise.ensures there x.tree.value c.self.invariant.waiting));
+      impossible = no_more_wanted x.nodes.present x.apps.impossible c.finish.new.self.impossible c.finish.ensures.impossible c.self.invariant.impossible;
     })
 
 pub returns-clause-finished : goal.returns-clause-finished

@@ -9,6 +9,7 @@ use Rattle.cap_commit.proofs.Followed.{followed_settings, held_followed, may_now
 use Rattle.cap_commit.proofs.Waiting.{moved_keeps, waited_rows}
 use Rattle.cap_commit.specs.Waiting.{followed_row, waits_of}
 use Rattle.cap_asks.specs.Apps.{is_waiting}
+use Rattle.cap_commit.proofs.Reach.{no_more_wanted}
 use Rattle.cap_commit.proofs.cluster.Cluster.grant.Goals as goal
 
 pub returns-clause-proposed : goal.returns-clause-proposed
@@ -132,6 +133,9 @@ invariant_of-self-2 g c =
     (record {
       consistent = held_followed _ held q.app _ _ _;
       waiting = waited_now p c.self.invariant.consistent c.numbers_rise.ensures q.app f keeps c.add_grant.new.self table positions applied waited stays;
+      impossible =
+          no_more_wanted x.nodes.present c.take_one.new.self.impossible c.add_grant.new.self.impossible c.add_grant.ensures.impossible
+          (no_more_wanted x.nodes.present x.apps.impossible c.take_one.new.self.impossible c.take_one.ensures.impossible c.self.invariant.impossible);
     })
 
 pub follow_app-requires : goal.follow_app-requires

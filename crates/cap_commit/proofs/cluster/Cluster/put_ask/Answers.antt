@@ -5,6 +5,7 @@ use Rattle.cap_commit.proofs.Followed.{followed_settings, held_followed, may_now
 use Rattle.cap_commit.proofs.Sizes.{tree_fits}
 use Rattle.cap_commit.specs.Waiting.{followed_row, waits_of}
 use Rattle.cap_asks.specs.Apps.{with_ask_put}
+use Rattle.cap_commit.proofs.Reach.{ask_wanted}
 use Rattle.cap_commit.proofs.cluster.Cluster.put_ask.Goals as goal
 
 pub invariant_of-self : goal.invariant_of-self
@@ -19,6 +20,9 @@ invariant_of-self g c =
     (record {
       consistent = held_followed _ (held_app _ c.self-2.invariant.consistent n 1 now f keeps c.put_ask.ensures.table c.put_ask.ensures.accounts) n _ _ _;
       waiting = waited_now _ c.self-2.invariant.consistent c.numbers_rise.ensures n f keeps now c.put_ask.ensures.table c.put_ask.ensures.accounts.positions x.tree.value c.self-2.invariant.waiting (λ path position at. at);
+      impossible =
+          ask_wanted x.nodes.present c.with_resource-ask.result c.may_take-impossible.result x.apps.impossible now.impossible c.put_ask.ensures.impossible
+          (λ off. rw (← c.place.ensures, ← c.resource-2.ensures) (c.may_take-impossible.ensures off)) c.self-2.invariant.impossible;
     })
 
 pub follow_app-requires : goal.follow_app-requires

@@ -4,6 +4,7 @@ use Rattle.cap_commit.proofs.Followed.{held_followed, may_now, none_there, waite
 use Rattle.cap_commit.proofs.Fitting.{apps_fit}
 use Rattle.cap_commit.proofs.Sizes.{tree_fits}
 use Rattle.cap_commit.specs.Waiting.{followed_row, waits_of}
+use Rattle.cap_commit.proofs.Reach.{no_more_wanted}
 use Rattle.cap_commit.proofs.cluster.Cluster.register.Goals as goal
 
 pub invariant_of-self : goal.invariant_of-self
@@ -18,6 +19,7 @@ invariant_of-self g c =
     (record {
       consistent = held_followed _ (held_app _ c.self.invariant.consistent n 0 now f keeps c.register.ensures.table c.register.ensures.accounts) n _ _ _;
       waiting = waited_now _ c.self.invariant.consistent c.numbers_rise.ensures n f keeps now c.register.ensures.table c.register.ensures.accounts.positions x.tree.value c.self.invariant.waiting (λ path position at. at);
+      impossible = no_more_wanted x.nodes.present x.apps.impossible now.impossible c.register.ensures.impossible c.self.invariant.impossible;
     })
 
 pub follow_app-requires : goal.follow_app-requires

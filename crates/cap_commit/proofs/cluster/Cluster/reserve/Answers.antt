@@ -54,6 +54,7 @@ invariant_of-self-2 g c =
     (record {
       consistent = held_reserved _ c.self.invariant.consistent q passes c.requires.kind a owner count;
       waiting = waited_rows _ (moved_keeps g.row.K a.leaf a.user (use_alone (zeros g.row.K)) (use_alone q.resource)) x.apps.table.active x.tree.value c.self.invariant.waiting;
+      impossible = c.self.invariant.impossible;
     })
 
 pub returns-clause-ok : goal.returns-clause-ok

@@ -13,6 +13,7 @@ invariant_of-self g c =
     (record {
       consistent = held_settings _ c.self.invariant.consistent _ _ c.limits_of-self-inside.result (rows_change c.args.config.now.queues) c.limits_of-self-inside.ensures.few;
       waiting = waited_rows _ (rows_keep c.args.config.now.queues) c.self.inside.apps.table.active c.self.inside.tree.value c.self.invariant.waiting;
+      impossible = c.self.invariant.impossible;
     })
 
 pub returns-clause-flat : goal.returns-clause-flat

@@ -12,6 +12,7 @@ invariant_of-self g c =
     (record {
       consistent = held_settings _ c.self.invariant.consistent _ _ c.self.inside.limits (state_changes (path_at c.args.position.now.items c.self.inside.tree.value) c.args.running) c.self.invariant.consistent.limit;
       waiting = waited_rows _ (state_keeps (path_at c.args.position.now.items c.self.inside.tree.value) c.args.running) c.self.inside.apps.table.active c.self.inside.tree.value c.self.invariant.waiting;
+      impossible = c.self.invariant.impossible;
     })
 
 pub returns-clause-flat : goal.returns-clause-flat

@@ -1,10 +1,11 @@
 use Rattle.cap_commit.proofs.Fitting.{in_cluster, nodes_in_cluster}
-use Rattle.cap_commit.proofs.Prelude.{ap, sym, ◌∙◌, map, arith, filter, with_reserved, queues_of, lowered_row, path_at, is_elsewhere, flat_of, zero_count, use_alone}
+use Rattle.cap_commit.proofs.Prelude.{ap, sym, ◌∙◌, map, arith, filter, with_reserved, queues_of, lowered_row, path_at, is_elsewhere, NodeTable, flat_of, zero_count, use_alone}
 use Rattle.cap_commit.proofs.Unreserving.{place_of, has_holder, may_give_reserved, held_dropped, dropped_is}
 use Rattle.cap_commit.proofs.Holding.{placed_at, position_is}
 use Rattle.cap_commit.proofs.Moving.{moved_settings}
 use Rattle.cap_commit.proofs.Sizes.{tree_fits}
 use Rattle.cap_commit.proofs.Waiting.{moved_keeps, waited_rows}
+use Rattle.cap_commit.proofs.Reach.{nodes_same}
 use Rattle.cap_commit.proofs.cluster.Cluster.unreserve.Goals as goal
 
 pub unreachable-requires : goal.unreachable-requires
@@ -48,6 +49,7 @@ invariant_of-self g c =
     (record {
       consistent = held_dropped _ c.self.invariant.consistent place.index one place.below place.at app owner (omega (arith, count)) c.unreserve.new.self (c.unreserve.ensures ∙ ap (λ rs. record x.nodes { reserved = rs }) left);
       waiting = waited_rows _ (moved_keeps g.row.K app.leaf app.user (use_alone one.resource) (zero_count g.row.K)) x.apps.table.active x.tree.value c.self.invariant.waiting;
+      impossible = nodes_same x.nodes.present c.unreserve.new.self.present x.apps.impossible (ap (λ (t : NodeTable). t.present) c.unreserve.ensures) c.self.invariant.impossible;
     })
 
 pub returns-clause-flat : goal.returns-clause-flat
