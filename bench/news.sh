@@ -28,7 +28,7 @@ broken=0
 # a_hold NODES ENTRIES
 a_hold() {
   local most=$((1500 + 100 * $2))
-  each looking::take_news 1 100 news "$1" "$2"
+  each looker::take_news 1 100 news "$1" "$2"
   [ "$made" = "$((200 * $2)) taken" ] || { echo "not all entries are taken: $made" >&2; exit 1; }
   echo "a hold that takes $2 entries, with $1 nodes: $each instructions (at most $most)"
   [ "$each" -le "$most" ] || broken=1
@@ -41,7 +41,7 @@ done
 again() {
   each alone::is_made 16 "$3" again "$1" alone "$2"
   local alone=$each
-  each looking::make_again 16 "$3" again "$1" replica "$2"
+  each looker::make_again 16 "$3" again "$1" replica "$2"
   [ "$made" = "$((32 * $3)) made" ] || { echo "not every call is made: $made" >&2; exit 1; }
   echo "$1: $alone instructions alone, $each made again"
   ratio "$alone" "$each" 1.2 || broken=1

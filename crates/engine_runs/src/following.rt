@@ -3,7 +3,6 @@
 mod alone;
 mod epoch;
 mod filling;
-mod looking;
 mod requests;
 mod rounds;
 mod work;

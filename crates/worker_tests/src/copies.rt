@@ -5,7 +5,6 @@ ghost use Rattle.std.specs.Prelude.{◌≡◌, IfSome};
 
 use crate::clients::{Called, Course, begin_clients, join_clients, seats_of};
 use crate::epochs::{Begun, Opening, THREE_ASKED, begin, call_all, following, open_for};
-use crate::looking::{Both, Looker};
 use crate::picture::picture_of;
 use bumpalo::Bump;
 use cap_base::RESOURCES;
@@ -13,7 +12,7 @@ use cap_commit::Cluster;
 use cap_messages::dispatch;
 use cap_model::{Event, Proposal, ProposalKind, Verdict};
 use cap_shared::{Entry, Seat, Shared};
-use cap_testing::{TWO_QUEUES, are_alike, cluster, report_alike};
+use cap_testing::{Both, Looker, TWO_QUEUES, are_alike, cluster, report_alike};
 use cap_workers::{LaneNaming, OpenGate, StopSignal, Worker};
 use std::alloc::Global;
 use std::marker::Brand;
@@ -317,6 +316,7 @@ fn play_under_name<J: LaneNaming + Send + Sync, H: Threads + Wait + Sync>(
         own,
     } = begin::<J, H>(rt, alloc, opening, LIMIT)?;
     let (_, follower) = following(own)?;
+    let (seat, replica) = follower.into_parts();
     let mut copier = Copier {
         worker: Worker::new(0),
         seat: seats.pop()?,
@@ -324,7 +324,7 @@ fn play_under_name<J: LaneNaming + Send + Sync, H: Threads + Wait + Sync>(
     copier.grant_three(rt, alloc, &shared)?;
     let hands = Hands {
         seats,
-        looker: Looker::of(follower),
+        looker: Looker::new(seat, replica),
         copier,
         rests,
     };

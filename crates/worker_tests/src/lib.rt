@@ -16,7 +16,6 @@ mod following;
 #[cfg(test)]
 mod in_step;
 #[cfg(test)]
-mod looking;
 #[cfg(test)]
 mod picture;
 #[cfg(test)]

@@ -2,7 +2,6 @@
 ghost use Rattle.std.specs.Prelude.{◌≡◌, ◌≤◌, IfSome};
 
 use crate::following::filling::{fill, put_queues};
-use crate::following::looking::Looker;
 use crate::following::requests::Requests;
 use crate::following::rounds::{follow_rounds, look_on};
 use crate::following::work::{Kind, Task, Work};
@@ -10,6 +9,7 @@ use cap_base::RESOURCES;
 use cap_commit::Cluster;
 use cap_config::read_config;
 use cap_shared::{Blank, Seat, Shared};
+use cap_testing::Looker;
 use cap_workers::{
     BegunEpoch, Follower, IdleWorker, LaneNaming, OpenGate, Scheduler, Seeing, TurnEnd, Worker,
     begin_epoch,
@@ -87,7 +87,8 @@ fn follow<J: LaneNaming, H: Wait>(
     work: &Work,
 ) -> Option<u64> {
     let (_, follower) = following(own)?;
-    let mut looker = Looker::of(follower);
+    let (seat, replica) = follower.into_parts();
+    let mut looker = Looker::new(seat, replica);
     looker.catch_up(rt, shared)?;
     match work.task {
         Task::Turns(_) => None,

@@ -1,9 +1,9 @@
 //! What a replica does with calls that a seat makes: it takes them and lets them go (`look_on`), or makes them again round by round (`follow_rounds`).
 
-use crate::following::looking::Looker;
 use crate::following::requests::{ROUND, Requests};
 use cap_model::ReplyWith;
 use cap_shared::{Naming, Seat, Shared};
+use cap_testing::Looker;
 use std::sync::Wait;
 
 /// Makes so many calls, and then so many looks at them: how many entries these took in all. `None` if a call is refused.

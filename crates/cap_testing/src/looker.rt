@@ -1,11 +1,12 @@
 //! A replica and its seat, which takes what is new in the journal (`Looker`), and makes it again or lets it go.
-ghost use Rattle.std.specs.Prelude.{◌≡◌, ◌++◌, MatchResult};
+ghost use Rattle.std.specs.Prelude.{◌≡◌, ◌+◌, ◌++◌, MatchResult, length};
 ghost use mathlib.Core.List.{IsPrefix};
 ghost use Rattle.cap_shared.specs.Following.{Follows, IsNews, LeadsOn};
 
+use cap_base::RESOURCES;
+use cap_commit::Cluster;
 use cap_model::NoMemory;
-use cap_shared::{Naming, Piece, Replica, Seat, Shared};
-use cap_workers::Follower;
+use cap_shared::{Closed, Naming, Piece, Replica, Seat, Shared};
 use std::marker::Model;
 use std::sync::Wait;
 
@@ -36,10 +37,21 @@ impl<J: Naming> Model for Looker<J> {
 }
 
 impl<J: Naming> Looker<J> {
-    /// That of a worker.
-    pub fn of(follower: Follower<J>) -> Looker<J> {
-        let (seat, replica) = follower.into_parts();
+    /// A replica, which has followed what its seat was noted.
+    pub fn new(seat: Seat<J>, replica: Replica<J>) -> Looker<J>
+        requires { Follows replica.log seat.past }
+    {
         Looker { seat, replica }
+    }
+
+    /// Its cluster.
+    pub fn cluster(&self) -> &Cluster<RESOURCES> {
+        self.replica.cluster()
+    }
+
+    /// How many entries it has followed.
+    pub fn followed(&self) -> usize {
+        self.replica.followed()
     }
 
     /// Takes a piece of what is new, in one hold, and lets it go: how many entries it has. `None` if an allocation fails.
@@ -61,6 +73,29 @@ impl<J: Naming> Looker<J> {
         }
         unreachable!()
     }
+
+    /// Closes the epoch, with the other seats: what is left of it, and the cluster of the replica. `None` if an allocation fails.
+    pub fn close(self, shared: Shared<J>, others: Vec<Seat<J>>) -> Option<Both>
+        requires { length others.items + 1 ≡ J.seats }
+    {
+        let Looker { seat, replica } = self;
+        let mut seats = others;
+        let Ok(()) = seats.push(seat) else {
+            return None;
+        };
+        let closed = shared.close(seats);
+        match replica.close(&closed) {
+            Ok(own) => Some(Both { closed, own }),
+            Err(_) => None,
+        }
+    }
+}
+
+/// What is left of an epoch, and the cluster of a replica.
+#[derive(Drop)]
+pub struct Both {
+    pub closed: Closed,
+    pub own: Cluster<RESOURCES>,
 }
 
 fn look<J: Naming, H: Wait>(

@@ -1,6 +1,6 @@
 use Rattle.std.proofs.Common.{refl}
 use Rattle.cap_shared.proofs.Following.{piece_follows}
-use Rattle.engine_runs.proofs.following.looking.look.Goals as goal
+use Rattle.cap_testing.proofs.looker.look.Goals as goal
 
 pub returns-in-Ok : goal.returns-in-Ok
 returns-in-Ok g c =

@@ -1,5 +1,5 @@
 use Rattle.cap_shared.proofs.Following.{piece_follows}
-use Rattle.engine_runs.proofs.following.looking.take_piece.Goals as goal
+use Rattle.cap_testing.proofs.looker.take_piece.Goals as goal
 
 pub returns : goal.returns
 returns g c =

@@ -3,7 +3,7 @@ use Rattle.cap_shared.specs.WordRule.{AllFit, Fits}
 use Rattle.cap_shared.specs.declared.entry.Entry.{Entry}
 use Rattle.cap_shared.specs.declared.history.Sitting.{Sitting}
 use Rattle.cap_shared.proofs.Following.{follows_begins}
-use Rattle.worker_tests.proofs.looking.Looker.close.Goals as goal
+use Rattle.cap_testing.proofs.looker.Looker.close.Goals as goal
 
 -- the last of seats that all fit
 last_fits : (journal : List Entry) (seats : List Sitting) (s : Sitting) → AllFit journal (seats ++ s ∷ []) → Fits journal s
