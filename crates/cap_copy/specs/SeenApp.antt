@@ -22,6 +22,7 @@ abbrev pub nobody : HeldApp
 nobody = record {
   app = record { number = 0; leaf = []; user = []; registered = false; response = 0; kept = None; asks = []; grants = []; ends = [] };
   account = record { position = []; live = 0; asks = 0; grants = 0; ends = 0 };
+  impossible = [];
 }
 
 abbrev pub held_in : List (HeldApp × ℕ) → HeldApp

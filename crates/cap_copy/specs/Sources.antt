@@ -18,7 +18,7 @@ use Rattle.cap_copy.specs.Taking.{node_seen, sight_of_parts}
 
 -- the applications and the nodes that were copied
 abbrev pub held_apps_in : List (HeldApps × NodeTable) → HeldApps
-held_apps_in [] = record { table = no_apps; accounts = [] }
+held_apps_in [] = record { table = no_apps; accounts = []; impossible = [] }
 held_apps_in (source ∷ sources) = source.0
 
 abbrev pub nodes_in : List (HeldApps × NodeTable) → NodeTable
