@@ -23,7 +23,7 @@ use Rattle.cap_workers.specs.contracts.scheduler.Scheduled as Scheduled
 use Rattle.cap_workers.specs.contracts.scheduler.Scheduled.TheInside as scheduled
 use Rattle.cap_workers.specs.contracts.scheduler.Scheduler as Scheduler
 use Rattle.cap_workers.specs.contracts.seeing.Seeing as Seeing
-use Rattle.cap_server.proofs.connection.ClientConnection.TheSendSync as connection
+use Rattle.cap_connections.proofs.connection.ClientConnection.TheSendSync as connection
 use Rattle.cap_server.specs.contracts.task.Done as Done
 use Rattle.cap_server.specs.contracts.task.Task as Task
 

@@ -1,6 +1,6 @@
 //! Where connections come in, and where those wait to which nothing comes (`Acceptor`).
-use crate::connection::ClientConnection;
 use crate::serving::Sizes;
+use cap_connections::ClientConnection;
 use cap_streams::{Course, EndSignal, Renewal};
 use mio::unix::SourceFd;
 use mio::{Events, Interest, Poll, Token, Waker};

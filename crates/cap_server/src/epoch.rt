@@ -6,12 +6,12 @@ ghost use Rattle.cap_workers.specs.Idle.{AllAre};
 ghost use Rattle.cap_server.specs.Epochs.{LeadsTo, standing};
 
 use crate::participants::{EpochThreads, Left, Participants};
-use crate::places::Places;
 use crate::state::SharedState;
 use crate::task::Records;
 use crate::threads::{Common, run_threads};
 use cap_base::RESOURCES;
 use cap_commit::Cluster;
+use cap_connections::Places;
 use cap_model::NoMemory;
 use cap_shared::{Blank, Closed, Seat, Shared};
 use cap_workers::{

@@ -2,10 +2,8 @@
 #![tactic(auto)]
 
 mod acceptor;
-mod connection;
 mod epoch;
 mod participants;
-mod places;
 mod rejections;
 mod serving;
 mod state;

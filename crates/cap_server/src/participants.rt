@@ -1,8 +1,8 @@
 //! Who works on from epoch to epoch, and with what (`Participants`), and the threads of an epoch.
 
 use crate::acceptor::Acceptor;
-use crate::connection::ClientConnection;
 use crate::task::Done;
+use cap_connections::ClientConnection;
 use cap_model::NoMemory;
 use cap_shared::Seat;
 use cap_streams::EndSignal;

@@ -1,9 +1,8 @@
 //! What the threads of an epoch do: those of workers and of the committer (`Task`), and those that serve connections.
 ghost use Rattle.std.specs.Prelude.{◌≡◌};
 
-use crate::connection::ClientConnection;
-use crate::places::{Given, Place};
 use crate::state::SharedState;
+use cap_connections::{ClientConnection, Given, Place};
 use cap_shared::{Entry, Seat, SeatReport, Shared};
 use cap_streams::EndSignal;
 use cap_workers::{

@@ -2,11 +2,10 @@
 ghost use denote.Param.Send.{IsSend, IsSync};
 
 use crate::acceptor::{Accept, Acceptor};
-use crate::connection::{ClientConnection, Refused};
 use crate::participants::{EpochThreads, Left, Participants, SeatedThread};
-use crate::places::{Given, Place, Places};
 use crate::state::SharedState;
 use crate::task::{Done, Task, serve};
+use cap_connections::{ClientConnection, Given, Place, Places, Refused};
 use cap_model::NoMemory;
 use cap_shared::Shared;
 use cap_streams::Course;

@@ -2,7 +2,7 @@ use denote.Param.Send.{sendable}
 use Rattle.std.proofs.Crossing.{crosses}
 use Rattle.cap_shared.proofs.Crossing.{Shared-sync}
 use Rattle.cap_server.proofs.Crossing.{Done-send}
-use Rattle.cap_server.proofs.places.Place.TheSendSync as place
+use Rattle.cap_connections.proofs.places.Place.TheSendSync as place
 use Rattle.cap_server.proofs.state.SharedState.TheSendSync as state
 use Rattle.cap_server.proofs.threads.begin_serving.Goals as goal
 

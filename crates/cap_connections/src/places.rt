@@ -8,14 +8,14 @@ use std::sync::{Mutex, Wait};
 
 /// A connection, and the seat that it is served with.
 #[derive(Drop)]
-pub(crate) struct Given<J: Naming> {
+pub struct Given<J: Naming> {
     pub connection: ClientConnection,
     pub seat: Seat<J>,
 }
 
 /// What is given to a connection's thread. Where no thread can be made it is taken back.
 #[derive(Drop)]
-pub(crate) struct Place<J: Naming> {
+pub struct Place<J: Naming> {
     given: Mutex<Option<Given<J>>>,
     /// Whether the connection has ended, and its thread is to be waited for.
     has_ended: AtomicU64,
@@ -31,18 +31,18 @@ impl<J: Naming> Place<J> {
     }
 
     /// Gives a connection and its seat.
-    pub(crate) fn give<H: Wait>(&self, rt: &H, connection: ClientConnection, seat: Seat<J>) {
+    pub fn give<H: Wait>(&self, rt: &H, connection: ClientConnection, seat: Seat<J>) {
         let mut given = self.given.lock(rt);
         *given = Some(Given { connection, seat });
     }
 
     /// Takes what was given.
-    pub(crate) fn take<H: Wait>(&self, rt: &H) -> Option<Given<J>> {
+    pub fn take<H: Wait>(&self, rt: &H) -> Option<Given<J>> {
         self.given.lock(rt).take()
     }
 
     /// Notes that the connection has ended.
-    pub(crate) fn note_end(&self) {
+    pub fn note_end(&self) {
         self.has_ended.store(1, Ordering::SeqCst);
     }
 
@@ -54,13 +54,13 @@ impl<J: Naming> Place<J> {
 
 /// The places of an epoch, each for the seat of its number.
 #[derive(Drop)]
-pub(crate) struct Places<J: Naming> {
+pub struct Places<J: Naming> {
     places: Vec<Place<J>>,
 }
 
 impl<J: Naming> Places<J> {
     /// So many places. An error means that an allocation failed.
-    pub(crate) fn new(alloc: Global, count: usize) -> Result<Places<J>, NoMemory> {
+    pub fn new(alloc: Global, count: usize) -> Result<Places<J>, NoMemory> {
         let Ok(mut places) = Vec::with_capacity(alloc, count) else {
             return Err(NoMemory);
         };
@@ -73,12 +73,12 @@ impl<J: Naming> Places<J> {
     }
 
     /// The place for the seat of this number.
-    pub(crate) fn of(&self, seat: u32) -> Option<&Place<J>> {
+    pub fn of(&self, seat: u32) -> Option<&Place<J>> {
         self.places.get(seat as usize)
     }
 
     /// Whether the connection that was served with the seat of this number has ended since this was last asked.
-    pub(crate) fn has_ended(&self, seat: u32) -> bool {
+    pub fn has_ended(&self, seat: u32) -> bool {
         self.of(seat).is_some_and(|place| place.has_ended())
     }
 }

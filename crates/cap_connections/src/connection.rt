@@ -99,7 +99,7 @@ impl Phase {
 
 /// A connection from epoch to epoch.
 #[derive(Drop)]
-pub(crate) struct ClientConnection {
+pub struct ClientConnection {
     /// Connections are numbered from 0, in the order in which they were accepted.
     pub number: usize,
     /// Whether it is reported to the thread of the daemon once something comes.
@@ -112,7 +112,7 @@ pub(crate) struct ClientConnection {
 
 /// What becomes of a connection for which no thread could be made.
 #[derive(Clone, Copy)]
-pub(crate) enum Refused {
+pub enum Refused {
     /// It was the first time. It is tried again.
     First,
     /// It is tried again.
@@ -136,7 +136,7 @@ enum Course {
 
 impl ClientConnection {
     /// A connection that was accepted. An error means that its stream can't be set up, or that an allocation failed.
-    pub(crate) fn new<H: Net>(
+    pub fn new<H: Net>(
         rt: &H,
         alloc: Global,
         stream: TcpStream,
@@ -164,12 +164,12 @@ impl ClientConnection {
     }
 
     /// Its socket's descriptor.
-    pub(crate) fn descriptor(&self) -> RawFd {
+    pub fn descriptor(&self) -> RawFd {
         self.socket.stream.as_raw_fd()
     }
 
     /// Whether there is something to do for it, although nothing more comes.
-    pub(crate) fn is_busy(&self) -> bool {
+    pub fn is_busy(&self) -> bool {
         let is_open = match &self.phase {
             Phase::Serving(open_session) => open_session.pending.is_some(),
             Phase::Closing(_, _) => true,
@@ -178,7 +178,7 @@ impl ClientConnection {
     }
 
     /// No thread could be made for it. Whether it is tried again, and whether that is to be said.
-    pub(crate) fn refuse<H: Clock>(&mut self, rt: &H) -> Refused {
+    pub fn refuse<H: Clock>(&mut self, rt: &H) -> Refused {
         let Ok(now) = Instant::now(rt) else {
             return Refused::GivenUp;
         };
@@ -196,7 +196,7 @@ impl ClientConnection {
 
     /// Serves the connection until it ends or the epoch does. Where the journal is full the epoch ends. The connection comes back if it is to be
     /// served in the next.
-    pub(crate) fn serve<J: Naming, H: Wait + Clock>(
+    pub fn serve<J: Naming, H: Wait + Clock>(
         self,
         rt: &H,
         shared: &Shared<J>,
