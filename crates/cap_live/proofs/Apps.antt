@@ -1,5 +1,5 @@
 -- The applications that a table gives for a number.
-use Rattle.cap_live.proofs.Prelude.{◌≡◌, ℕ, true, false, ◌&&◌, List, [], ◌∷◌, map, length, Option, Some, None, refl, sym, ◌∙◌, ap, subst, arith, nat_tests, not, ◌==◌, find, option_map, IfSome, MatchOption, IsSome, eqb-true, same_Some, found, IsIn, IsRising, found_by_number, seen_is, Account, HeldApp, account_of, is_waiting, App, AppTable, AppSight, Ask, Key, app_in, ask_at, app_sight, seen_app, sight_of, HasWaiter, ClusterState, HasNoNextApp, IsNextApp, Bor, All, each_of, waiting_at, option_map_or, HeldApps, position_of, IsRowOf, IsWaitedAt, IsAt, Row, queues_of, HasNoWaiter, IsNextWaiter}
+use Rattle.cap_live.proofs.Prelude.{◌≡◌, ℕ, true, false, ◌&&◌, List, [], ◌∷◌, map, length, Option, Some, None, refl, sym, ◌∙◌, ap, subst, arith, nat_tests, not, ◌==◌, find, option_map, IfSome, MatchOption, IsSome, eqb-true, same_Some, found, IsIn, IsRising, found_by_number, seen_is, Account, HeldApp, account_of, is_waiting, App, AppTable, AppSight, Ask, Key, app_in, ask_at, app_sight, seen_app, sight_of, HasWaiter, ClusterState, HasNoNextApp, IsNextApp, Bor, All, each_of, waiting_at, option_map_or, HeldApps, position_of, IsRowOf, IsWaitedAt, IsAt, Row, queues_of, HasNoWaiter, IsNextWaiter, AreAmong, AreOutOfReach, Want}
 use Rattle.cap_live.proofs.Tied.{AreSame, next_is, none_is, seen_waiter, waits_there}
 
 module _ {K : ℕ} (c : ClusterState K) (rising : IsRising 1 (map (λ app. app.number) c.flat.apps.active) c.flat.apps.next) where
@@ -7,10 +7,10 @@ module _ {K : ℕ} (c : ClusterState K) (rising : IsRising 1 (map (λ app. app.n
   own_number : (n : ℕ) (app : App) → app_in c.flat.apps n ≡ Some app → app.number ≡ n
   own_number n app e = let t = (found (λ (a : App). a.number == n) c.flat.apps.active app e).1 in eqb-true app.number n t
 
-  pub has_waiter : (n : ℕ) (held : HeldApp) → app_in c.flat.apps n ≡ Some held.app → account_of n c.accounts ≡ Some held.account → is_waiting held.app ≡ true → HasWaiter c held
-  has_waiter n held e f w =
+  pub has_waiter : (n : ℕ) (held : HeldApp) → app_in c.flat.apps n ≡ Some held.app → account_of n c.accounts ≡ Some held.account → is_waiting held.app ≡ true → AreOutOfReach c.flat.nodes.present held.impossible → HasWaiter c held
+  has_waiter n held e f w reach =
       let own = own_number n held.app e in
-      record { found = ap (app_in c.flat.apps) own ∙ e; account = ap (λ k. account_of k c.accounts) own ∙ f; waits = w }
+      record { found = ap (app_in c.flat.apps) own ∙ e; account = ap (λ k. account_of k c.accounts) own ∙ f; waits = w; impossible = reach }
 
   -- an active application that waits is seen, and one that is seen and has asks waits
   pub seen_of : (n : ℕ) (app : App) → app_in c.flat.apps n ≡ Some app → is_waiting app ≡ true → seen_app (sight_of c.flat) n ≡ Some (app_sight app)
@@ -39,19 +39,19 @@ pub record IsHandle {K : ℕ} (c : ClusterState K) (after : Option AppSight) (r 
   pub next : MatchOption r (HasNoNextApp (sight_of c.flat) after) (λ b. IsNextApp (sight_of c.flat) after (app_sight b.now.app))
 
 module _ {K : ℕ} (c : ClusterState K) (rising : IsRising 1 (map (λ app. app.number) c.flat.apps.active) c.flat.apps.next) where
-  pub handle_is : (after : Option AppSight) (n : ℕ) (app : App) → IsIn app c.flat.apps.active → is_waiting app ≡ true → app.number ≡ n → IsNextApp (sight_of c.flat) after (app_sight app) → (r : Option (Bor HeldApp)) →
-      option_map (λ (b : Bor HeldApp). b.now.app) r ≡ app_in c.flat.apps n → option_map (λ (b : Bor HeldApp). b.now.account) r ≡ account_of n c.accounts → IsHandle c after r
-  handle_is after n app m w number next r e f = by r e f
+  pub handle_is : (after : Option AppSight) (n : ℕ) (app : App) → IsIn app c.flat.apps.active → is_waiting app ≡ true → app.number ≡ n → IsNextApp (sight_of c.flat) after (app_sight app) → (wants : List Want) → AreOutOfReach c.flat.nodes.present wants → (r : Option (Bor HeldApp)) →
+      option_map (λ (b : Bor HeldApp). b.now.app) r ≡ app_in c.flat.apps n → option_map (λ (b : Bor HeldApp). b.now.account) r ≡ account_of n c.accounts → IfSome r (λ b. AreAmong b.now.impossible wants) → IsHandle c after r
+  handle_is after n app m w number next wants reach r e f among = by r e f among
     where
       there : app_in c.flat.apps n ≡ Some app
       there = subst (λ k. find (λ (a : App). a.number == k) c.flat.apps.active ≡ Some app) number (found_by_number (λ (a : App). a.number) 1 c.flat.apps.active c.flat.apps.next app rising m)
 
-      by : (r : Option (Bor HeldApp)) → option_map (λ (b : Bor HeldApp). b.now.app) r ≡ app_in c.flat.apps n → option_map (λ (b : Bor HeldApp). b.now.account) r ≡ account_of n c.accounts → IsHandle c after r
-      by None e f = absurd (cc (e ∙ there))
-      by (Some b) e f =
+      by : (r : Option (Bor HeldApp)) → option_map (λ (b : Bor HeldApp). b.now.app) r ≡ app_in c.flat.apps n → option_map (λ (b : Bor HeldApp). b.now.account) r ≡ account_of n c.accounts → IfSome r (λ x. AreAmong x.now.impossible wants) → IsHandle c after r
+      by None e f a = absurd (cc (e ∙ there))
+      by (Some b) e f a =
           let same : app ≡ b.now.app = same_Some app b.now.app (sym there ∙ sym e) in
           record {
-            has = has_waiter c rising n b.now (sym e) (sym f) (subst (λ (x : App). is_waiting x ≡ true) same w);
+            has = has_waiter c rising n b.now (sym e) (sym f) (subst (λ (x : App). is_waiting x ≡ true) same w) (λ want m. reach want (a want m));
             next = subst (λ (x : App). IsNextApp (sight_of c.flat) after (app_sight x)) same next;
           }
 
@@ -72,10 +72,10 @@ module _ {K : ℕ} (s : ClusterState K) (queues : queues_of s.rows ≡ s.flat.se
   places = subst (λ (t : AppTable). All (λ app. IsAt s.rows app.leaf (position_of app.number s.accounts)) t.active) table placed
 
   pub some_next : (after : Option AppSight) (at : Option (List ℕ × ℕ)) → AreSame s.rows after at → (n : ℕ) → IsNextWaiter rows at n → (r : Option (Bor HeldApp)) → option_map (λ (b : Bor HeldApp). b.now.app) r ≡ app_in apps.table n →
-      option_map (λ (b : Bor HeldApp). b.now.account) r ≡ account_of n apps.accounts → IsHandle s after r
-  some_next after at same n h r e f =
+      option_map (λ (b : Bor HeldApp). b.now.account) r ≡ account_of n apps.accounts → AreOutOfReach s.flat.nodes.present apps.impossible → IfSome r (λ b. AreAmong b.now.impossible apps.impossible) → IsHandle s after r
+  some_next after at same n h r e f reach among =
       let x = next_is s.flat s.rows queues tied waiting (λ k. position_of k s.accounts) places rise after at same n (subst (λ ws. IsNextWaiter ws at n) rows_are h) in
-      handle_is s rise after n x.app x.member x.waits x.number x.next r (e ∙ ap (λ t. app_in t n) table) (f ∙ ap (account_of n) accounts)
+      handle_is s rise after n x.app x.member x.waits x.number x.next apps.impossible reach r (e ∙ ap (λ t. app_in t n) table) (f ∙ ap (account_of n) accounts) among
 
   pub no_next : (after : Option AppSight) (at : Option (List ℕ × ℕ)) → AreSame s.rows after at → HasNoWaiter rows at → HasNoNextApp (sight_of s.flat) after
   no_next after at same h = none_is s.flat s.rows queues tied waiting (λ k. position_of k s.accounts) places rise after at same (subst (λ ws. HasNoWaiter ws at) rows_are h)

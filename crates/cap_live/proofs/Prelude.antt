@@ -2,6 +2,7 @@
 pub use Rattle.cap_asks.proofs.Keeping.{before_not_same}
 pub use Rattle.cap_asks.specs.Accounts.{Account, AreAfter, AreKept, HeldApp, WantAtLeast, is_before}
 pub use Rattle.cap_asks.specs.Apps.{HeldApps, account_of, is_waiting, position_of}
+pub use Rattle.cap_asks.specs.Impossible.{AreAmong, Want, WantAmong, want_of}
 pub use Rattle.cap_base.proofs.Amounts.{amounts_fit, fits_amounts}
 pub use Rattle.cap_base.proofs.lists.Filters.{filter_mapped, find_mapped_at, map_same, map_twice}
 pub use Rattle.cap_base.proofs.lists.Members.{each_of, found, in_filter, in_map, of_each, of_filter, of_map}
@@ -18,10 +19,10 @@ pub use Rattle.cap_base.specs.Settings.{QueueRow}
 pub use Rattle.cap_base.specs.Texts.{star}
 pub use Rattle.cap_commit.proofs.RowsAt.{found_row, row_at}
 pub use Rattle.cap_commit.specs.Admission.{load_sight}
-pub use Rattle.cap_commit.specs.ClusterState.{ClusterState, IsRowOf, IsWaitedAt, numbers_of, waits_where}
+pub use Rattle.cap_commit.specs.ClusterState.{AreOutOfReach, ClusterState, IsRowOf, IsWaitedAt, numbers_of, waits_where}
 pub use Rattle.cap_farm.specs.Offers.{AreByKey, IsWhole}
 pub use Rattle.cap_farm.specs.Ring.{IsReserved, IsTurn, node_after, ring_index}
-pub use Rattle.cap_farm.specs.Rooms.{IsIdle, IsShut, IsShutFor, IsUnfit, in_limits, kind_by_room, taken_as}
+pub use Rattle.cap_farm.specs.Rooms.{AreImpossible, IsIdle, IsImpossible, IsShut, IsShutFor, IsUnfit, in_limits, kind_by_room, taken_as}
 pub use Rattle.cap_farm.specs.Service.{HasNoNextApp, IsLater, IsNextApp, IsWaiter, app_cmp, levels_to}
 pub use Rattle.cap_laws.proofs.bounds.Wanting.{nodes_on, on_nodes}
 pub use Rattle.cap_laws.proofs.choice.Proposers.{seen_is}

@@ -1,5 +1,5 @@
 -- What is allowed or taken of a resource is allowed or taken of a lesser one.
-use Rattle.cap_live.proofs.Prelude.{◌≡◌, ℕ, Bool, true, false, ◌&&◌, List, [], ◌∷◌, Option, Some, None, not, refl, inl, inr, arith, All, and_from, and_parts, amounts_fit, fits_amounts, fits, times, holds_of, list_all, fits_maximum, fits_user_limit, Fits, amounts_exchanged, amount-exchanged, zeros, star, Ask, takes_place, AppSight, ClusterNode, Flat, NodeTable, QueueSight, Sight, node_sight, queues_to, seen_queue, sight_of, could_take, empty_sight, in_limits, of_map, each_of, IsUnfit, IsShut, WantAtLeast, subst}
+use Rattle.cap_live.proofs.Prelude.{◌≡◌, ℕ, Bool, true, false, ◌&&◌, List, [], ◌∷◌, Option, Some, None, not, refl, inl, inr, arith, All, and_from, and_parts, amounts_fit, fits_amounts, fits, times, holds_of, list_all, fits_maximum, fits_user_limit, Fits, amounts_exchanged, amount-exchanged, zeros, star, Ask, takes_place, AppSight, ClusterNode, Flat, NodeTable, QueueSight, Sight, node_sight, queues_to, seen_queue, sight_of, could_take, empty_sight, in_limits, of_map, each_of, IsUnfit, IsShut, WantAtLeast, subst, IsIn, AreImpossible, IsImpossible, AreOutOfReach, Want, WantAmong, want_of}
 use Rattle.cap_live.proofs.Nodes.{unfit_of}
 
 -- a lesser use fits where a greater one does
@@ -66,3 +66,16 @@ module _ {K : ℕ} (flat : Flat K) (least : List ℕ) where
       let x = of_map (node_sight flat) flat.nodes.present node there in
       let here = each_of (λ (n : ClusterNode). could_take (star ∷ []) least n ≡ false) flat.nodes.present (subst (λ (t : NodeTable). All (λ n. could_take (star ∷ []) least n ≡ false) t.present) same none) (x.0) (x.1) in
       subst (IsUnfit ask) (x.2) (unfit_of flat ask (x.0) (no_more_taken ask (wants ask m) (x.0) here)))
+
+-- an ask that wants what no node could take, even an empty one, and so each of those that an application passes over, and all of them
+module _ {K : ℕ} (flat : Flat K) (wants : List Want) (reach : AreOutOfReach flat.nodes.present wants) where
+  no_node_takes : (ask : Ask) → IsIn (want_of ask) wants → IsImpossible (sight_of flat) ask
+  no_node_takes ask m node there =
+      let x = of_map (node_sight flat) flat.nodes.present node there in
+      subst (IsUnfit ask) (x.2) (unfit_of flat ask (x.0) (each_of (λ (n : ClusterNode). could_take ask.place ask.resource n ≡ false) flat.nodes.present (reach (want_of ask) m) (x.0) (x.1)))
+
+  pub passed_over : (asks : List Ask) (from to : ℕ) → WantAmong wants asks from to → AreImpossible (sight_of flat) asks from to
+  passed_over asks from to h = record { later = h.later; within = h.within; passed = λ index ask late early at. no_node_takes ask (h.among index ask late early at) }
+
+  pub all_impossible_shut : (app : AppSight) → ((ask : Ask) → IsIn ask app.asks → IsIn (want_of ask) wants) → IsShut (sight_of flat) app
+  all_impossible_shut app each ask m = inl (no_node_takes ask (each ask m))

@@ -3,10 +3,11 @@ use Rattle.std.specs.Prelude.{◌≡◌, ℕ, Some, true}
 use Rattle.cap_model.specs.Flat.{app_at}
 use Rattle.cap_asks.specs.Accounts.{HeldApp}
 use Rattle.cap_asks.specs.Apps.{account_of, is_waiting}
-use Rattle.cap_commit.specs.ClusterState.{ClusterState}
+use Rattle.cap_commit.specs.ClusterState.{AreOutOfReach, ClusterState}
 
--- an active application of a cluster, with its account, that waits for containers
+-- an active application of a cluster, with its account, that waits for containers; no present node could take what its impossible asks want
 pub record HasWaiter {K : ℕ} (cluster : ClusterState K) (held : HeldApp) : Type 0 where
   pub found : app_at cluster.flat held.app.number ≡ Some held.app
   pub account : account_of held.app.number cluster.accounts ≡ Some held.account
   pub waits : is_waiting held.app ≡ true
+  pub impossible : AreOutOfReach cluster.flat.nodes.present held.impossible

@@ -196,12 +196,19 @@ impl<'a, const K: usize> Farm<K> for Live<'a, K> {
     }
 
     fn is_shut(&self, of: &'a App<K>) -> bool {
+        if of.is_impossible() {
+            return true;
+        }
         let nodes = self.cluster.nodes();
         let least = of.least();
         if !nodes.may_take(&ShortText::any(), &least) {
             return true;
         }
         !self.stays_within(of, &Resource::zero(), &least)
+    }
+
+    fn next_possible(&self, of: &'a App<K>, from: usize) -> usize {
+        of.next_possible(from)
     }
 
     fn live(&self) -> usize {

@@ -18,7 +18,7 @@ pub returns-clause-has : goal.returns-clause-has
 returns-clause-has g c =
     let a = c.apps-apps.ensures in
     let rise = subst (λ (t : AppTable). IsRising 1 (map (λ app. app.number) t.active) t.next) a.table c.numbers_rise.ensures in
-    rw (← c.self.view_is) (has_waiter c.self.inside.cluster.now rise c.args.number c.in-Some.app.now (sym (c.in-Some.ensures.found ∙ ap (λ t. app_in t c.args.number) a.table)) (sym (c.in-Some.ensures.account ∙ ap (account_of c.args.number) a.accounts)) (sym c.is_waiting.ensures ∙ c.if-not-is_waiting.false))
+    rw (← c.self.view_is) (has_waiter c.self.inside.cluster.now rise c.args.number c.in-Some.app.now (sym (c.in-Some.ensures.found ∙ ap (λ t. app_in t c.args.number) a.table)) (sym (c.in-Some.ensures.account ∙ ap (account_of c.args.number) a.accounts)) (sym c.is_waiting.ensures ∙ c.if-not-is_waiting.false) (λ want m. a.impossible want (c.in-Some.ensures.impossible want m)))
 
 pub returns-clause-found : goal.returns-clause-found
 returns-clause-found g c =

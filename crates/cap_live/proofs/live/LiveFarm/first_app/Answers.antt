@@ -21,7 +21,7 @@ returns-clause-has g c =
     let a = c.apps-apps.ensures in
     rw (← c.self.view_is)
     ((some_next c.self.inside.cluster.now t.queues t.tied t.waiting c.apps-apps.result.now a.table a.accounts a.placed c.numbers_rise.ensures c.tree-tree.result.now t.rows None None tt c.in-Some.number
-    (subst (λ o. MatchOption o (HasNoWaiter c.tree-tree.result.now None) (IsNextWaiter c.tree-tree.result.now None)) c.in-Some.is c.first_served.ensures) c.app.result c.app.ensures.found c.app.ensures.account).has)
+    (subst (λ o. MatchOption o (HasNoWaiter c.tree-tree.result.now None) (IsNextWaiter c.tree-tree.result.now None)) c.in-Some.is c.first_served.ensures) c.app.result c.app.ensures.found c.app.ensures.account a.impossible c.app.ensures.impossible).has)
 
 pub returns-clause-first : goal.returns-clause-first
 returns-clause-first g c =
@@ -29,7 +29,7 @@ returns-clause-first g c =
     let a = c.apps-apps.ensures in
     rw (← c.self.view_is)
     ((some_next c.self.inside.cluster.now t.queues t.tied t.waiting c.apps-apps.result.now a.table a.accounts a.placed c.numbers_rise.ensures c.tree-tree.result.now t.rows None None tt c.in-Some.number
-    (subst (λ o. MatchOption o (HasNoWaiter c.tree-tree.result.now None) (IsNextWaiter c.tree-tree.result.now None)) c.in-Some.is c.first_served.ensures) c.app.result c.app.ensures.found c.app.ensures.account).next)
+    (subst (λ o. MatchOption o (HasNoWaiter c.tree-tree.result.now None) (IsNextWaiter c.tree-tree.result.now None)) c.in-Some.is c.first_served.ensures) c.app.result c.app.ensures.found c.app.ensures.account a.impossible c.app.ensures.impossible).next)
 
 pub first_served-requires : goal.first_served-requires
 first_served-requires g c = tree_fits _ c.self.invariant

@@ -1,6 +1,9 @@
 use Rattle.cap_live.proofs.Prelude.{◌≡◌, ◌∙◌, ap, sym, subst, All, false, ClusterState, app_sight, could_take, in_limits, sight_of}
-use Rattle.cap_live.proofs.Shutting.{none_takes_shut, not_off, over_limits_shut}
+use Rattle.cap_live.proofs.Shutting.{all_impossible_shut, none_takes_shut, not_off, over_limits_shut}
 use Rattle.cap_live.proofs.live.LiveFarm.is_shut.Goals as goal
+
+pub returns-then-is_impossible : goal.returns-then-is_impossible
+returns-then-is_impossible g c _ = all_impossible_shut c.args.self.now.flat c.args.of.now.impossible c.requires.impossible (app_sight c.args.of.now.app) (c.is_impossible.ensures c.if-is_impossible.true)
 
 pub returns-then-not-may_take : goal.returns-then-not-may_take
 returns-then-not-may_take g c _ =

@@ -30,7 +30,7 @@ returns-clause-has g c =
     let has = (subst (λ (s : ClusterState g.row.K). HasWaiter s c.args.last.now) (sym c.self.view_is) c.requires) in
     let placed = held_at c.self.inside.cluster.now c.apps-apps.result.now a.table a.placed c.args.last.now has in
     let path_is = ap (λ p. path_at p c.self.inside.cluster.now.rows) c.position.ensures ∙ placed.path_is in
-    rw (← c.self.view_is) ((some_next c.self.inside.cluster.now t.queues t.tied t.waiting c.apps-apps.result.now a.table a.accounts a.placed c.numbers_rise.ensures c.tree-tree.result.now t.rows (Some (app_sight c.args.last.now.app)) (Some (c.position.result.now.items, c.number.result)) (path_is, c.number.ensures) c.in-Some.number (subst (λ o. MatchOption o (HasNoWaiter c.tree-tree.result.now (Some (c.position.result.now.items, c.number.result))) (IsNextWaiter c.tree-tree.result.now (Some (c.position.result.now.items, c.number.result)))) c.in-Some.is c.next_served.ensures) c.app.result c.app.ensures.found c.app.ensures.account).has)
+    rw (← c.self.view_is) ((some_next c.self.inside.cluster.now t.queues t.tied t.waiting c.apps-apps.result.now a.table a.accounts a.placed c.numbers_rise.ensures c.tree-tree.result.now t.rows (Some (app_sight c.args.last.now.app)) (Some (c.position.result.now.items, c.number.result)) (path_is, c.number.ensures) c.in-Some.number (subst (λ o. MatchOption o (HasNoWaiter c.tree-tree.result.now (Some (c.position.result.now.items, c.number.result))) (IsNextWaiter c.tree-tree.result.now (Some (c.position.result.now.items, c.number.result)))) c.in-Some.is c.next_served.ensures) c.app.result c.app.ensures.found c.app.ensures.account a.impossible c.app.ensures.impossible).has)
 
 pub returns-clause-next : goal.returns-clause-next
 returns-clause-next g c =
@@ -39,4 +39,4 @@ returns-clause-next g c =
     let has = (subst (λ (s : ClusterState g.row.K). HasWaiter s c.args.last.now) (sym c.self.view_is) c.requires) in
     let placed = held_at c.self.inside.cluster.now c.apps-apps.result.now a.table a.placed c.args.last.now has in
     let path_is = ap (λ p. path_at p c.self.inside.cluster.now.rows) c.position.ensures ∙ placed.path_is in
-    rw (← c.self.view_is) ((some_next c.self.inside.cluster.now t.queues t.tied t.waiting c.apps-apps.result.now a.table a.accounts a.placed c.numbers_rise.ensures c.tree-tree.result.now t.rows (Some (app_sight c.args.last.now.app)) (Some (c.position.result.now.items, c.number.result)) (path_is, c.number.ensures) c.in-Some.number (subst (λ o. MatchOption o (HasNoWaiter c.tree-tree.result.now (Some (c.position.result.now.items, c.number.result))) (IsNextWaiter c.tree-tree.result.now (Some (c.position.result.now.items, c.number.result)))) c.in-Some.is c.next_served.ensures) c.app.result c.app.ensures.found c.app.ensures.account).next)
+    rw (← c.self.view_is) ((some_next c.self.inside.cluster.now t.queues t.tied t.waiting c.apps-apps.result.now a.table a.accounts a.placed c.numbers_rise.ensures c.tree-tree.result.now t.rows (Some (app_sight c.args.last.now.app)) (Some (c.position.result.now.items, c.number.result)) (path_is, c.number.ensures) c.in-Some.number (subst (λ o. MatchOption o (HasNoWaiter c.tree-tree.result.now (Some (c.position.result.now.items, c.number.result))) (IsNextWaiter c.tree-tree.result.now (Some (c.position.result.now.items, c.number.result)))) c.in-Some.is c.next_served.ensures) c.app.result c.app.ensures.found c.app.ensures.account a.impossible c.app.ensures.impossible).next)
