@@ -217,7 +217,7 @@ fn proposals_on_a_cluster_are_those_on_its_snapshot(rt: HostRuntime) {
 }
 
 /// The priority of the ask and the number of the node of what is proposed from the first node on.
-fn chosen(cluster: &Cluster<RESOURCES>) -> Option<(u32, u64)> {
+pub(crate) fn chosen(cluster: &Cluster<RESOURCES>) -> Option<(u32, u64)> {
     let proposal = propose_live(cluster, 0)?;
     Some((proposal.key.priority, proposal.node))
 }
