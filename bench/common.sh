@@ -76,7 +76,11 @@ count() {
     END { print moved + 0, total - moved, dropped + 0 }')
 }
 
-# ratio FIRST SECOND MOST: prints the ratio of two times or counts, and fails where it is greater
+# ratio FIRST SECOND [MOST]: prints the ratio of two times or counts, and fails where it is greater than a most that is given
 ratio() {
-  awk -v a="$1" -v b="$2" -v most="$3" 'BEGIN { r = b / (a > 0 ? a : 1); printf "ratio of the two: %.2f (at most %s)\n", r, most; exit !(r <= most) }'
+  awk -v a="$1" -v b="$2" -v most="${3-}" 'BEGIN {
+    r = b / (a > 0 ? a : 1)
+    printf "ratio of the two: %.2f%s\n", r, most == "" ? "" : " (at most " most ")"
+    exit most != "" && r > most + 0
+  }'
 }

@@ -10,6 +10,8 @@
 //! journal. It prints how many containers they granted.
 //! The word `pass` and ten numbers are the same five, then MiB of a node, of what a user may have in a leaf queue, and of a container
 //! that is asked for, how many users the applications have, and whether one more application stands beside them that is served.
+//! The word `host`, `rack` or `late` may follow: all asks are for a host that is not there, for such a rack, or for a
+//! host that comes after them.
 //! The word `news` and three numbers are nodes, entries, and looks: so many Allocates of 20 asks are entered, and so many holds take them as news, always the
 //! same. It prints how many entries were taken in all.
 //! The word `again`, a kind of call (`allocate`, `heartbeat`, `node`, `refresh`), who makes it and two numbers are leaf queues and rounds of 16 calls, which are

@@ -11,13 +11,22 @@ const SMALL: [u64; RESOURCES] = [1024, 1, 0];
 /// What a node has that comes later, where it has enough for all that is asked of it.
 const MIDDLE: [u64; RESOURCES] = [4096, 4, 0];
 
-/// One container anywhere.
-const ASKS_OF_2: &[WantedContainers<'static>] = &[WantedContainers {
+/// One container anywhere, for application 2.
+const ANYWHERE: &[WantedContainers<'static>] = &[WantedContainers {
     priority: 5,
     request: 0,
     count: 1,
     resource: SMALL,
     place: b"*",
+}];
+
+/// One on the host `n2`, for application 2.
+const ON_N2: &[WantedContainers<'static>] = &[WantedContainers {
+    priority: 5,
+    request: 0,
+    count: 1,
+    resource: SMALL,
+    place: b"n2",
 }];
 
 /// A node, and application 1 in `root.a`, where its user may have more than all asks of a table come to.
@@ -283,10 +292,7 @@ static TWO_APPLICATIONS: [Step; 11] = [
     ),
     Step(Act::Call(Call::Submit(b"root.a", b"u2")), None),
     Step(Act::Call(Call::RegisterMaster(2)), None),
-    Step(
-        Act::Call(Call::Allocate(2, 0, ASKS_OF_2, &[])),
-        Some((5, 1)),
-    ),
+    Step(Act::Call(Call::Allocate(2, 0, ANYWHERE, &[])), Some((5, 1))),
     // The first node of the ring that takes one comes first.
     Step(
         Act::Call(Call::RegisterNode(b"n2", b"/r2", MIDDLE)),
@@ -304,6 +310,19 @@ static TWO_APPLICATIONS: [Step; 11] = [
         Act::Call(Call::RegisterNode(b"n4", b"/r4", MIDDLE)),
         Some((1, 4)),
     ),
+];
+
+/// Application 1, which asks for nothing, finishes while the ask of application 2 is impossible.
+static FINISHED_BEFORE: [Step; 6] = [
+    Step(Act::Call(Call::Submit(b"root.a", b"u2")), None),
+    Step(Act::Call(Call::RegisterMaster(2)), None),
+    Step(Act::Call(Call::Allocate(2, 0, ON_N2, &[])), None),
+    Step(Act::Call(Call::FinishMaster(1)), None),
+    Step(
+        Act::Call(Call::RegisterNode(b"n2", b"/r2", MIDDLE)),
+        Some((5, 2)),
+    ),
+    Step(Act::Commit, None),
 ];
 
 /// How many of the steps are as they say once the first node and application 1 are there.
@@ -360,4 +379,9 @@ fn an_ask_for_a_full_node_is_not_impossible(rt: HostRuntime) {
 #[test]
 fn an_application_behind_one_with_impossible_asks_is_served(rt: HostRuntime) {
     assert!(rt; followed(rt.alloc(), &TWO_APPLICATIONS) == Some(11));
+}
+
+#[test]
+fn an_ask_waits_for_its_host_where_an_application_before_it_has_finished(rt: HostRuntime) {
+    assert!(rt; followed(rt.alloc(), &FINISHED_BEFORE) == Some(6));
 }

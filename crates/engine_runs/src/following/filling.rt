@@ -1,6 +1,6 @@
 //! What fills the cluster of a work: queues (`put_queues`), and calls that add nodes and applications (`fill`).
 
-use crate::following::work::Work;
+use crate::following::work::{Place, Work};
 use cap_base::RESOURCES;
 use cap_messages::read_request;
 use cap_model::ReplyWith;
@@ -54,7 +54,7 @@ struct Entry<'a> {
     asks: &'a [WantedContainers<'static>],
 }
 
-/// Adds the nodes and the applications of a work, each with its asks.
+/// Adds the nodes and the applications of a work, each with its asks, and the host that comes last where it has one.
 pub fn fill<J: Naming, H: Wait>(
     rt: &H,
     alloc: Global,
@@ -64,6 +64,10 @@ pub fn fill<J: Naming, H: Wait>(
 ) -> Option<()> {
     add_nodes(rt, alloc, shared, seat, work)?;
     add_applications(rt, alloc, shared, seat, work)?;
+    if work.place == Place::LateHost {
+        let node = Call::RegisterNode(work.place.spelling(), b"/r", [work.node, VCORES, 0]);
+        call(rt, alloc, shared, seat, &node)?;
+    }
     if work.beside == 0 {
         return Some(());
     }
@@ -99,7 +103,7 @@ fn add_applications<J: Naming, H: Wait>(
     seat: &mut Seat<J>,
     work: &Work,
 ) -> Option<()> {
-    let asks = asks(alloc, work.asks, work.size)?;
+    let asks = asks(alloc, work.asks, work.size, work.place)?;
     for app in 0..work.applications {
         let mut leaf = String::new(alloc);
         write!(leaf, "root.q{}", app.checked_rem(work.leaves)?).ok()?;
@@ -132,8 +136,13 @@ fn enter<J: Naming, H: Wait>(
     call(rt, alloc, shared, seat, &allocate)
 }
 
-/// So many asks for containers of so many MiB anywhere.
-pub fn asks(alloc: Global, count: usize, size: u64) -> Option<Vec<WantedContainers<'static>>> {
+/// So many asks for containers of so many MiB at a place.
+pub fn asks(
+    alloc: Global,
+    count: usize,
+    size: u64,
+    place: Place,
+) -> Option<Vec<WantedContainers<'static>>> {
     let mut asks = Vec::with_capacity(alloc, count).ok()?;
     for request in 0..count as u64 {
         asks.push(WantedContainers {
@@ -141,7 +150,7 @@ pub fn asks(alloc: Global, count: usize, size: u64) -> Option<Vec<WantedContaine
             request,
             count: COUNT,
             resource: [size, 1, 0],
-            place: b"*",
+            place: place.spelling(),
         })
         .ok()?;
     }

@@ -1,7 +1,7 @@
 //! The requests of rounds (`Requests`).
 
 use crate::following::filling::{asks, put_queues};
-use crate::following::work::{Kind, Work};
+use crate::following::work::{Kind, Place, Work};
 use cap_base::RESOURCES;
 use cap_messages::read_request;
 use cap_model::Request;
@@ -31,7 +31,7 @@ impl Requests {
     pub fn new(alloc: Global, work: &Work, kind: Kind) -> Option<Requests> {
         let mut lines = String::new(alloc);
         put_queues(&mut lines, work).ok()?;
-        let asks = asks(alloc, ASKS, 1024)?;
+        let asks = asks(alloc, ASKS, 1024, Place::Anywhere)?;
         Some(Requests {
             alloc,
             kind,

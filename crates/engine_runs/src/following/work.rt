@@ -28,6 +28,29 @@ pub enum By {
     Replica,
 }
 
+/// Where all asks of the applications want containers.
+#[derive(Clone, Copy, PartialEq, Eq)]
+pub enum Place {
+    Anywhere,
+    /// On a host that is not there.
+    Host,
+    /// On a rack that is not there.
+    Rack,
+    /// On a host that comes after all applications have asked.
+    LateHost,
+}
+
+impl Place {
+    /// It as an ask spells it.
+    pub fn spelling(self) -> &'static [u8] {
+        match self {
+            Place::Anywhere => b"*",
+            Place::Rack => b"/gone",
+            Place::Host | Place::LateHost => b"gone",
+        }
+    }
+}
+
 /// What is done in the cluster.
 #[derive(Clone, Copy)]
 pub enum Task {
@@ -40,8 +63,9 @@ pub enum Task {
 }
 
 /// How many nodes and leaf queues the cluster has, how many applications with how many asks each, and what is done in it.
-/// A node has `node` MiB, a user may have `guarantee` MiB in a leaf queue, and an ask is for containers of `size` MiB. The applications are
-/// of so many users. Where `beside` is not 0 one more, in a wide leaf queue of its own, has one ask for small containers.
+/// A node has `node` MiB, a user may have `guarantee` MiB in a leaf queue, and an ask is for containers of `size` MiB at
+/// a place. The applications are of so many users. Where `beside` is not 0 one more, in a wide leaf queue of its own, has
+/// one ask for small containers.
 #[derive(Clone, Copy)]
 pub struct Work {
     pub nodes: u64,
@@ -51,6 +75,7 @@ pub struct Work {
     pub node: u64,
     pub guarantee: u64,
     pub size: u64,
+    pub place: Place,
     pub users: u64,
     pub beside: u64,
     pub task: Task,
@@ -82,6 +107,7 @@ fn wide(nodes: u64, leaves: u64, task: Task) -> Work {
         node: WIDE,
         guarantee: WIDE,
         size: CONTAINER,
+        place: Place::Anywhere,
         users: 1,
         beside: 0,
         task,
@@ -100,7 +126,7 @@ fn read_wide(rest: &str) -> Option<Work> {
     })
 }
 
-/// The work of these ten numbers.
+/// The work of these ten numbers and of the word behind them, if any.
 fn read_narrow(rest: &str) -> Option<Work> {
     let mut words = rest.split(' ');
     Some(Work {
@@ -114,7 +140,18 @@ fn read_narrow(rest: &str) -> Option<Work> {
         size: number(words.next())?,
         users: number(words.next())?,
         beside: number(words.next())?,
+        place: place(words.next())?,
     })
+}
+
+fn place(word: Option<&str>) -> Option<Place> {
+    match word {
+        None => Some(Place::Anywhere),
+        Some("host") => Some(Place::Host),
+        Some("rack") => Some(Place::Rack),
+        Some("late") => Some(Place::LateHost),
+        Some(_) => None,
+    }
 }
 
 /// The looks of these three numbers: nodes, entries and looks.
