@@ -9,7 +9,7 @@ need_valgrind
 build_engine_runs
 
 broken=0
-# a_turn GRANTS NODES LEAVES APPLICATIONS ASKS NODE GUARANTEE SIZE USERS BESIDE: the instructions of one turn, of which each grants so many
+# a_turn GRANTS NODES LEAVES APPLICATIONS ASKS NODE GUARANTEE SIZE USERS BESIDE [PLACE]: the instructions of one turn, of which each grants so many
 a_turn() {
   local turns first
   for turns in 100 200; do
