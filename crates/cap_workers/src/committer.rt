@@ -1,6 +1,7 @@
 //! The committer's end of the lanes of an epoch, with the seat that it commits with (`LaneCommitter`), and how the lanes are closed.
-ghost use Rattle.std.specs.Prelude.{◌≡◌, ◌+◌, [], Some, All, IfOk, length};
+ghost use Rattle.std.specs.Prelude.{◌≡◌, ◌+◌, ◌↔◌, [], Some, All, IfOk, IsTrue, length};
 ghost use Rattle.std.specs.Option.{option_to_list};
+ghost use Rattle.cap_lanes.specs.Sides.{AllOver};
 ghost use Rattle.cap_workers.specs.Committing.{CommitsTaken, held_in};
 ghost use Rattle.cap_workers.specs.Lanes.{IsCommitting, IsLane, LanesEnd, StayIn};
 
@@ -73,7 +74,10 @@ impl<J: LaneNaming> LaneCommitter<J> {
     }
 
     /// Whether the ends of all lanes were taken. Then nothing comes any more.
-    pub(crate) fn is_over(&self) -> bool {
+    pub(crate) fn is_over(&self) -> bool
+        ensures over { IsTrue result ↔ AllOver self.now.side.over }
+        ensures commits { IsCommitting J.lanes J.limit self.now.side self.now.seat }
+    {
         self.committer.is_over()
     }
 

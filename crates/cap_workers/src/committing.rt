@@ -1,6 +1,8 @@
 //! What workers put into their lanes is committed by whoever holds the cluster: the committer, or a worker (`commit_all`, `commit_lanes`).
-ghost use Rattle.std.specs.Prelude.{◌≡◌, MatchOption};
+ghost use Rattle.std.specs.Prelude.{◌≡◌, IfSome, MatchOption};
+ghost use Rattle.cap_lanes.specs.Sides.{AllOver};
 ghost use Rattle.cap_workers.specs.Committing.{CommitsNext, CommitsTaken, held_in};
+ghost use Rattle.cap_workers.specs.Lanes.{IsCommitting};
 
 use crate::committer::LaneCommitter;
 use crate::coordinator::{BATCH, Coordinator, Outcomes};
@@ -15,59 +17,42 @@ const LOOKS: usize = 2 * BATCH;
 
 /// The committer commits what the workers put, in the order in which it is taken, when it begins and whenever a worker has finished, until all have;
 /// in between, workers that wait for an answer take and commit what waits, with the same seat. What is taken once the journal is full is not made, as is
-/// a proposal that an allocation fails for. What it began with comes back, so that the lanes can be closed.
+/// a proposal that an allocation fails for. What comes back is what the lanes are closed with: the ends of all workers were taken, and all that the seat
+/// was answered is commits of what was taken, in order, each once.
 pub fn commit_all<J: LaneNaming, R: Wait, G: Gate>(
     rt: &R,
     shared: &Shared<J>,
     coordinator: &Coordinator<J>,
     gate: &G,
     lanes: LaneCommitter<J>,
-) -> Option<LaneCommitter<J>> {
+) -> Option<LaneCommitter<J>>
+    ensures over { IfSome result (λ lanes. AllOver lanes.side.over) }
+    ensures commits { IfSome result (λ lanes.
+        IsCommitting J.lanes J.limit lanes.side lanes.seat) }
+{
     coordinator.open_lanes(rt, lanes);
     for _ in rt.forever() {
-        let Some(committed) = commit_lanes(rt, shared, coordinator) else {
-            break;
-        };
-        coordinator.notify(rt, gate, &committed.outcomes);
-        if committed.is_over {
-            break;
+        let outcomes = commit_lanes(rt, shared, coordinator)?;
+        coordinator.notify(rt, gate, &outcomes);
+        if let Some(lanes) = coordinator.take_over(rt) {
+            return Some(lanes);
         }
-        if committed.is_short() {
+        if outcomes.iter().any(|outcome| outcome.is_none()) {
             coordinator.await_finished(rt);
         }
     }
-    coordinator.take_lanes(rt)
+    unreachable!()
 }
 
-/// What came of the proposals that waited in the lanes.
-#[derive(Clone, Copy)]
-pub(crate) struct Committed {
-    pub outcomes: Outcomes,
-    /// Whether all workers have finished.
-    pub is_over: bool,
-}
-
-impl Committed {
-    /// Whether more could have been committed while the cluster was held.
-    fn is_short(&self) -> bool {
-        self.outcomes.iter().any(|outcome| outcome.is_none())
-    }
-}
-
-/// Holds the cluster, and commits the proposals that wait in the lanes, once the committer has begun. `None` if it has not.
+/// Holds the cluster, and commits the proposals that wait in the lanes, once the committer has begun: what came of them. `None` if it has not.
 pub(crate) fn commit_lanes<J: LaneNaming, R: Wait>(
     rt: &R,
     shared: &Shared<J>,
     coordinator: &Coordinator<J>,
-) -> Option<Committed> {
+) -> Option<Outcomes> {
     let mut held = shared.hold_to_schedule(rt);
     let mut open = coordinator.lanes(rt);
-    let lanes = open.as_mut()?;
-    let outcomes = lanes.commit_waiting(rt, &mut held);
-    Some(Committed {
-        outcomes,
-        is_over: lanes.is_over(),
-    })
+    Some(open.as_mut()?.commit_waiting(rt, &mut held))
 }
 
 /// Commits the proposals that wait in the lanes. Each worker has one there at most, and its end. What came of them, in their order.

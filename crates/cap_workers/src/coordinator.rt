@@ -1,4 +1,8 @@
 //! What the workers and the committer of an epoch share beside the cluster (`Coordinator`).
+ghost use Rattle.std.specs.Prelude.{IfSome};
+ghost use Rattle.cap_lanes.specs.Sides.{AllOver};
+ghost use Rattle.cap_workers.specs.Lanes.{IsCommitting};
+
 use crate::committer::LaneCommitter;
 use crate::gate::{CommitOutcome, Gate, Point};
 use crate::lane::LaneNaming;
@@ -65,9 +69,19 @@ impl<J: LaneNaming> Coordinator<J> {
         *open = Some(lanes);
     }
 
-    /// The committer's thread ends: what it began with. `None` if it has not begun.
-    pub(crate) fn take_lanes<R: Wait>(&self, rt: &R) -> Option<LaneCommitter<J>> {
-        self.lanes.lock(rt).take()
+    /// The committer's thread ends, once all workers have finished: what was committed out of the lanes. `None` if some have not.
+    pub(crate) fn take_over<R: Wait>(&self, rt: &R) -> Option<LaneCommitter<J>>
+        ensures over { IfSome result (λ lanes. AllOver lanes.side.over) }
+        ensures commits { IfSome result (λ lanes.
+            IsCommitting J.lanes J.limit lanes.side lanes.seat) }
+    {
+        let mut open = self.lanes.lock(rt);
+        let lanes = open.take()?;
+        if lanes.is_over() {
+            return Some(lanes);
+        }
+        *open = Some(lanes);
+        None
     }
 
     /// What is committed out of the lanes, if the committer's thread runs, for one that holds the cluster.

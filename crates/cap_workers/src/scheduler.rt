@@ -407,8 +407,8 @@ fn after_offer<J: LaneNaming, R: Wait, G: Gate, S>(
         OfferEnd::Nothing => Next::Rest,
         OfferEnd::Refused(_) | OfferEnd::NoMemory => Next::Retry,
         OfferEnd::Put => {
-            if let Some(committed) = commit_lanes(rt, shared, *coordinator) {
-                coordinator.notify(rt, *gate, &committed.outcomes);
+            if let Some(outcomes) = commit_lanes(rt, shared, *coordinator) {
+                coordinator.notify(rt, *gate, &outcomes);
             }
             Next::after_answer(coordinator.lane(worker).await_answer(rt))
         }
