@@ -188,11 +188,7 @@ fn take_begun<J: LaneNaming>(
     ensures { IfSome result (λ one. one.first ≡ first) }
 {
     let place = scheduled.iter().position(|it| it.first() == first)?;
-    let one = scheduled.swap_remove(place);
-    if one.first() != first {
-        return None;
-    }
-    Some(one)
+    Some(scheduled.swap_remove(place))
 }
 
 /// Takes workers from their seats, which are put to the others: the workers, each with what has followed the journal, if it has that, and their lanes. If

@@ -189,11 +189,7 @@ impl<J: LaneNaming> EpochLanes<J> {
         ensures { ForSome result (λ lane. lane.worker ≡ number) }
     {
         let place = self.lanes.iter().position(|it| it.worker() == number)?;
-        let lane = self.lanes.swap_remove(place);
-        if lane.worker() != number {
-            return None;
-        }
-        Some(lane)
+        Some(self.lanes.swap_remove(place))
     }
 
     /// Ends the lanes that nobody has. What is left is the committer's. If an allocation fails it is given up.
