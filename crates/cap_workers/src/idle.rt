@@ -1,5 +1,5 @@
 //! A worker between two epochs (`IdleWorker`), and how an epoch begins and ends for workers and lanes (`begin_epoch`, `close_epoch`).
-ghost use Rattle.std.specs.Prelude.{◌≡◌, ◌+◌, ◌++◌, [], Some, IfOk, IfSome, length, map, All};
+ghost use Rattle.std.specs.Prelude.{◌≡◌, ◌+◌, ◌++◌, [], true, Some, IfOk, IfSome, length, map, All};
 ghost use Rattle.std.specs.Option.{ForSome, option_to_list};
 ghost use mathlib.Core.List.{IsPrefix};
 ghost use Rattle.cap_shared.specs.Journal.{Replays};
@@ -187,7 +187,11 @@ fn take_begun<J: LaneNaming>(
 ) -> Option<Scheduled<J>>
     ensures { IfSome result (λ one. one.first ≡ first) }
 {
-    let place = scheduled.iter().position(|it| it.first() == first)?;
+    let place = scheduled.iter().position(
+        |it| -> bool
+            ensures { result ≡ true → it.now.first ≡ first }
+        { it.first() == first },
+    )?;
     Some(scheduled.swap_remove(place))
 }
 
