@@ -70,6 +70,8 @@ pub fn begin_epoch<J: LaneNaming, R: Wait>(
         map (λ s. s.worker) begun.schedulers.items ≡ map (λ w. w.worker) workers.items) }
     ensures firsts { IfOk result (λ begun.
         begun.firsts.items ≡ map (λ w. w.worker) workers.items) }
+    ensures own { IfOk result (λ begun.
+        All (λ s. ForSome s.lane (λ l. l.worker ≡ s.worker.number)) begun.schedulers.items) }
 {
     let mut lanes = open_lanes(alloc, seats, lanes)?;
     let (Ok(mut schedulers), Ok(mut firsts)) = (

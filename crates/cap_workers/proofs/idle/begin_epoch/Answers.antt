@@ -1,5 +1,6 @@
-use Rattle.cap_workers.proofs.Prelude.{ap, map}
-use Rattle.std.specs.Option.{option_to_list}
+use Rattle.cap_workers.proofs.Prelude.{◌≡◌, ap, map}
+use Rattle.std.specs.Option.{ForSome, option_to_list}
+use Rattle.std.proofs.lemmas.List.Elements.{All-nil, All-push}
 use Rattle.cap_workers.proofs.Leavers.{are_fresh, last_fresh, mapped_one, maps_one, others_fresh, yields_one}
 use Rattle.cap_workers.proofs.idle.begin_epoch.Goals as goal
 
@@ -12,6 +13,7 @@ loop-worker-init g c = record {
   fresh = c.in_ok-lanes.ensures;
   begun = ap (map (λ s. s.worker)) c.in-Ok-Ok.ensures.items;
   firsts = c.in-Ok-Ok.ensures'.items;
+  own = rw c.in-Ok-Ok.ensures.items (All-nil (λ s. ForSome s.lane (λ l. l.worker ≡ s.worker.number)));
 }
 
 pub begin-requires-clause-fresh : goal.begin-requires-clause-fresh
@@ -23,4 +25,5 @@ loop-worker-preserved g c = record {
   fresh = others_fresh c.loop-worker.seats.items c.pop.new.self.items (option_to_list c.pop.result) c.pop.ensures.items c.loop-worker.invariant.fresh;
   begun = maps_one (λ s. s.worker) (λ w. w.worker) c.loop-worker.schedulers.items c.push.new.self.items c.begin.result c.loop-worker.yielded c.in-Some.worker c.in-Ok.ensures.items c.loop-worker.invariant.begun c.begin.ensures.worker;
   firsts = mapped_one (λ w. w.worker) c.loop-worker.firsts.items c.push-in-loop-worker.new.self.items c.loop-worker.yielded c.in-Some.worker c.in-Ok-push.ensures.items c.loop-worker.invariant.firsts;
+  own = rw c.in-Ok.ensures.items (All-push (λ s. ForSome s.lane (λ l. l.worker ≡ s.worker.number)) c.loop-worker.schedulers.items c.begin.result c.loop-worker.invariant.own c.begin.result.own);
 }

@@ -1,5 +1,6 @@
 use Rattle.cap_workers.proofs.Prelude.{◌≡◌, ◌++◌, map}
 use Rattle.std.specs.List.{All}
+use Rattle.std.specs.Option.{ForSome}
 use Rattle.cap_workers.specs.Idle.{IsFresh}
 use Rattle.cap_workers.proofs.idle.begin_epoch.Given as goal
 
@@ -10,4 +11,5 @@ invariant-loop-worker g l = record {
   fresh : All IsFresh l.seats.items;
   begun : map (λ s. s.worker) l.schedulers.items ≡ map (λ w. w.worker) l.yielded;
   firsts : l.firsts.items ≡ map (λ w. w.worker) l.yielded;
+  own : All (λ s. ForSome s.lane (λ one. one.worker ≡ s.worker.number)) l.schedulers.items;
 }
