@@ -31,6 +31,18 @@ impl Mailbox {
             worker: Parker::new(),
         }
     }
+
+    /// Waits until the worker's proposal is answered.
+    fn await_answer<R: Wait>(&self, rt: &R) -> CommitOutcome {
+        for _ in rt.forever() {
+            let answered = self.outcome.lock(rt).take();
+            if let Some(outcome) = answered {
+                return outcome;
+            }
+            self.worker.park(rt);
+        }
+        unreachable!()
+    }
 }
 
 /// What the workers and the committer of an epoch share beside the cluster.
@@ -115,38 +127,11 @@ impl<J: LaneNaming> Coordinator<J> {
         }
     }
 
-    /// Where the worker of this number waits for answers.
-    pub(crate) fn lane(&self, worker: u32) -> LaneSide<'_> {
-        LaneSide {
-            answer: self.answers.get(worker as usize),
+    /// Waits until the proposal is answered that the worker of this number has put.
+    pub(crate) fn await_answer<R: Wait>(&self, rt: &R, worker: u32) -> CommitOutcome {
+        match self.answers.get(worker as usize) {
+            Some(mailbox) => mailbox.await_answer(rt),
+            None => CommitOutcome::Unmade,
         }
-    }
-}
-
-/// A worker's side of its lane, where it sees the answer to each proposal that it puts.
-#[derive(Drop)]
-pub(crate) struct LaneSide<'a> {
-    answer: Option<&'a Mailbox>,
-}
-
-impl LaneSide<'_> {
-    /// What came of the proposal that the worker has put. `None` if it was not answered yet, or if the worker has seen the answer.
-    pub(crate) fn answer<R: Wait>(&self, rt: &R) -> Option<CommitOutcome> {
-        let mut outcome = self.answer?.outcome.lock(rt);
-        outcome.take()
-    }
-
-    /// Waits until that is answered.
-    pub(crate) fn await_answer<R: Wait>(&self, rt: &R) -> CommitOutcome {
-        let Some(answer) = self.answer else {
-            return CommitOutcome::Unmade;
-        };
-        for _ in rt.forever() {
-            if let Some(outcome) = self.answer(rt) {
-                return outcome;
-            }
-            answer.worker.park(rt);
-        }
-        unreachable!()
     }
 }

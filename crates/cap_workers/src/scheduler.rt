@@ -410,7 +410,7 @@ fn after_offer<J: LaneNaming, R: Wait, G: Gate, S>(
             if let Some(outcomes) = commit_lanes(rt, shared, *coordinator) {
                 coordinator.notify(rt, *gate, &outcomes);
             }
-            Next::after_answer(coordinator.lane(worker).await_answer(rt))
+            Next::after_answer(coordinator.await_answer(rt, worker))
         }
     }
 }
