@@ -1,5 +1,5 @@
 -- What is allowed or taken of a resource is allowed or taken of a lesser one.
-use Rattle.cap_live.proofs.Prelude.{◌≡◌, ℕ, Bool, true, false, ◌&&◌, List, [], ◌∷◌, Option, Some, None, not, refl, inl, inr, arith, All, and_from, and_parts, amounts_fit, fits_amounts, fits, times, holds_of, list_all, fits_maximum, fits_user_limit, Fits, amounts_exchanged, amount-exchanged, zeros, star, Ask, takes_place, AppSight, ClusterNode, Flat, NodeTable, QueueSight, Sight, node_sight, queues_to, seen_queue, sight_of, could_take, empty_sight, in_limits, of_map, each_of, IsUnfit, IsShut, WantAtLeast, subst, IsIn, AreImpossible, IsImpossible, AreOutOfReach, Want, WantAmong, want_of}
+use Rattle.cap_live.proofs.Prelude.{◌≡◌, ℕ, Bool, true, false, List, [], ◌∷◌, Option, Some, None, not, refl, inl, inr, arith, and_from, and_parts, amounts_fit, fits_amounts, fits, times, holds_of, list_all, fits_maximum, fits_user_limit, Fits, amounts_exchanged, amount-exchanged, zeros, Ask, AppSight, ClusterNode, Flat, QueueSight, Sight, node_sight, queues_to, seen_queue, sight_of, could_take, in_limits, of_map, each_of, IsUnfit, IsShut, WantAtLeast, subst, IsIn, AreImpossible, IsImpossible, AreOutOfReach, Want, WantAmong, want_of}
 use Rattle.cap_live.proofs.Nodes.{unfit_of}
 
 -- a lesser use fits where a greater one does
@@ -47,25 +47,6 @@ module _ {K : ℕ} (sight : Sight K) (app : AppSight) (old a b : List ℕ) (less
 -- an application whose limits do not allow what its asks want at least
 pub over_limits_shut : {K : ℕ} (sight : Sight K) (app : AppSight) (least : List ℕ) → WantAtLeast least app.asks → in_limits sight app (zeros K) least ≡ false → IsShut sight app
 over_limits_shut {K} sight app least wants over ask m = inr (over_with_more sight app (zeros K) least ask.resource (wants ask m) over)
-
--- and one of which no node could take that, wherever it is
-module _ {K : ℕ} (flat : Flat K) (least : List ℕ) where
-  no_more_taken : (ask : Ask) → Fits least ask.resource → (node : ClusterNode) → could_take (star ∷ []) least node ≡ false → could_take ask.place ask.resource node ≡ false
-  no_more_taken ask less node off = by (takes_place ask.place (empty_sight node)) (fits ask.resource node.total) refl
-    where
-      small : fits least node.total ≡ true → ⊥
-      small h = absurd (cc (off, h))
-
-      by : (t f : Bool) → fits ask.resource node.total ≡ f → t && f ≡ false
-      by false f e = refl
-      by true false e = refl
-      by true true e = absurd (small (fits_lesser least ask.resource node.total less e))
-
-  pub none_takes_shut : (table : NodeTable) → table ≡ flat.nodes → All (λ node. could_take (star ∷ []) least node ≡ false) table.present → (app : AppSight) → WantAtLeast least app.asks → IsShut (sight_of flat) app
-  none_takes_shut table same none app wants ask m = inl (λ node there.
-      let x = of_map (node_sight flat) flat.nodes.present node there in
-      let here = each_of (λ (n : ClusterNode). could_take (star ∷ []) least n ≡ false) flat.nodes.present (subst (λ (t : NodeTable). All (λ n. could_take (star ∷ []) least n ≡ false) t.present) same none) (x.0) (x.1) in
-      subst (IsUnfit ask) (x.2) (unfit_of flat ask (x.0) (no_more_taken ask (wants ask m) (x.0) here)))
 
 -- an ask that wants what no node could take, even an empty one, and so each of those that an application passes over, and all of them
 module _ {K : ℕ} (flat : Flat K) (wants : List Want) (reach : AreOutOfReach flat.nodes.present wants) where

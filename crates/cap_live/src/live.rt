@@ -199,11 +199,8 @@ impl<'a, const K: usize> Farm<K> for Live<'a, K> {
         if of.is_impossible() {
             return true;
         }
-        let nodes = self.cluster.nodes();
+        self.cluster.nodes();
         let least = of.least();
-        if !nodes.may_take(&ShortText::any(), &least) {
-            return true;
-        }
         !self.stays_within(of, &Resource::zero(), &least)
     }
 
