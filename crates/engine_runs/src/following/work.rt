@@ -140,11 +140,11 @@ fn read_narrow(rest: &str) -> Option<Work> {
         size: number(words.next())?,
         users: number(words.next())?,
         beside: number(words.next())?,
-        place: place(words.next())?,
+        place: read_place(words.next())?,
     })
 }
 
-fn place(word: Option<&str>) -> Option<Place> {
+fn read_place(word: Option<&str>) -> Option<Place> {
     match word {
         None => Some(Place::Anywhere),
         Some("host") => Some(Place::Host),
