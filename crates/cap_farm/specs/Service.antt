@@ -1,5 +1,5 @@
 -- The order in which the applications of a sight are served.
-use Rattle.std.specs.Prelude.{◌≡◌, ℕ, ◌≤◌, false, List, Option, Some, None, drop, length, map}
+use Rattle.std.specs.Prelude.{◌≡◌, ◌⊎◌, ℕ, ◌≤◌, false, List, Option, Some, None, drop, length, map}
 use Rattle.std.specs.Ordering.{nat_cmp, then_cmp, on, is_gt}
 use Rattle.std.specs.declared.cmp.Ordering.{Ordering}
 use Rattle.std.specs.declared.cmp.Ordering.TheVariants.{Less}
@@ -8,6 +8,7 @@ use Rattle.cap_base.specs.Levels.{Level, level_cmp}
 use Rattle.cap_model.specs.Choice.{level_of}
 use Rattle.cap_model.specs.Sight.{AppSight, Sight, queues_to}
 use Rattle.cap_farm.specs.Offers.{IsSeenApp}
+use Rattle.cap_farm.specs.Rooms.{IsShut}
 
 module _ {K : ℕ} where
   -- what decides between queues on the way from below the root to a leaf
@@ -28,11 +29,12 @@ module _ {K : ℕ} where
   IsLater sight None app = Unit {0}
   IsLater sight (Some last) app = app_cmp sight last app ≡ Less
 
-  -- it is served next after that one, first where none is named; and that none is
+  -- it is served next after that one, first where none is named: all others that come after that one are served later, or are shut
   pub record IsNextApp (sight : Sight K) (after : Option AppSight) (app : AppSight) : Type 0 where
     pub waits : IsWaiter sight app
     pub later : IsLater sight after app
-    pub first : (other : AppSight) → IsWaiter sight other → IsLater sight after other → is_gt (app_cmp sight app other) ≡ false
+    pub first : (other : AppSight) → IsWaiter sight other → IsLater sight after other → (is_gt (app_cmp sight app other) ≡ false) ⊎ IsShut sight other
 
+  -- none is: all that come after that one are shut
   abbrev pub HasNoNextApp : Sight K → Option AppSight → Type 0
-  HasNoNextApp sight after = (other : AppSight) → IsWaiter sight other → ¬ IsLater sight after other
+  HasNoNextApp sight after = (other : AppSight) → IsWaiter sight other → IsLater sight after other → IsShut sight other

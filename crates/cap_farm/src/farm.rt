@@ -27,6 +27,9 @@ pub trait Farm<const K: usize> {
 
     ghost has: { Self → Self.App → Type 0 };
 
+    /// An application that the walk in the order of service gives, from which it goes on.
+    ghost served: { Self → Self.App → Type 0 };
+
     /// How many nodes there are.
     fn node_count(&self) -> usize
         ensures count { result ≡ length (sight self.now).nodes }
@@ -81,16 +84,21 @@ pub trait Farm<const K: usize> {
         ensures { result ≡
             option_and_then (λ node. node.reservation) (slice_get (sight self.now).nodes index) };
 
-    /// The application that is served first, none where none has asks.
+    /// The application that is served first, none where none has asks. It may leave out those that are shut: none of their asks may be
+    /// proposed on a node that holds no reservation.
     fn first_app(&self) -> Option<Self::App>
         ensures has { IfSome result (λ app. has self.now app) }
+        ensures served { IfSome result (λ app. served self.now app) }
         ensures first { MatchOption result (HasNoNextApp (sight self.now) None)
             (λ next. IsNextApp (sight self.now) None (shown self.now next)) };
 
-    /// The application that is served next after that one, none where none is left.
+    /// The application that is served next after that one, which this walk gave, none where none is left. It may leave out those that
+    /// are shut, in the same way.
     fn next_app(&self, last: Self::App) -> Option<Self::App>
-        requires { has self.now last }
+        requires has { has self.now last }
+        requires served { served self.now last }
         ensures has { IfSome result (λ app. has self.now app) }
+        ensures served { IfSome result (λ app. served self.now app) }
         ensures next { MatchOption result (HasNoNextApp (sight self.now) (Some (shown self.now last)))
             (λ next. IsNextApp (sight self.now) (Some (shown self.now last)) (shown self.now next)) };
 
