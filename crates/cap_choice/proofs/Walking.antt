@@ -14,8 +14,13 @@ module _ {K : ℕ} (sight : Sight K) where
   turned : (a b : AppSight) → app_cmp sight a b ≡ Greater → app_cmp sight b a ≡ Less
   turned a b e = app_cmp_total.antisymm b a ∙ ap ordering_reverse e
 
-  -- more that is looked at, or less
-  pub other_asks : (first : ℕ) (old new : Offer → Type 0) (turn : ℕ) (proposal : Option NodeProposal) → ((o : Offer) → IsOffer sight o → new o → old o) → IsNearest sight first old turn proposal → IsNearest sight first new turn proposal
+  -- what is served before an application, and is served later or shut, is shut
+  before_next : (next : AppSight) (o : Offer) → ComesBefore sight (Some next) o → (is_gt (app_cmp sight next o.app) ≡ false) ⊎ IsShut sight o.app → IsShut sight o.app
+  before_next next o before (inl not_after) = let after = app_cmp_total.antisymm next o.app ∙ ap ordering_reverse before in absurd (cc (not_after, after))
+  before_next next o before (inr shut) = shut
+
+  -- less that is looked at
+  other_asks : (first : ℕ) (old new : Offer → Type 0) (turn : ℕ) (proposal : Option NodeProposal) → ((o : Offer) → IsOffer sight o → new o → old o) → IsNearest sight first old turn proposal → IsNearest sight first new turn proposal
   other_asks first old new turn proposal sub near = record {
     within = near.within;
     passed = λ o is n. near.passed o is (sub o is n);
@@ -42,13 +47,26 @@ module _ {K : ℕ} (sight : Sight K) where
       none = λ _. refl;
     }
 
-    -- nor where no ask is looked at yet
-    pub none_yet : (asks : Offer → Type 0) (count : ℕ) → count ≡ length sight.nodes → ((o : Offer) → IsOffer sight o → asks o → ⊥) → IsNearest sight first asks count None
-    none_yet asks count count_is never = record {
+    -- an ask of an application that is shut is passed over
+    app_shut_passed : (turn : ℕ) (o : Offer) → IsOffer sight o → IsShut sight o.app → IsPassed sight first turn o
+    app_shut_passed turn o is shut = shut_passed sight whole first o is turn (shut o.ask is.member)
+
+    -- nor where only asks of such applications are looked at yet
+    pub none_yet : (asks : Offer → Type 0) (count : ℕ) → count ≡ length sight.nodes → ((o : Offer) → IsOffer sight o → asks o → IsShut sight o.app) → IsNearest sight first asks count None
+    none_yet asks count count_is shut = record {
       within = omega (arith, count_is);
-      passed = λ o is n. absurd (never o is n);
+      passed = λ o is n. app_shut_passed count o is (shut o is n);
       chosen = λ less. absurd (omega (arith, less, count_is));
       none = λ _. refl;
+    }
+
+    -- with asks of such applications
+    pub with_shut : (old new : Offer → Type 0) (turn : ℕ) (proposal : Option NodeProposal) → ((o : Offer) → IsOffer sight o → new o → old o ⊎ IsShut sight o.app) → IsNearest sight first old turn proposal → IsNearest sight first new turn proposal
+    with_shut old new turn proposal sub near = record {
+      within = near.within;
+      passed = λ o is n. elim (sub o is n) [ inl earlier ↦ near.passed o is earlier | inr shut ↦ app_shut_passed turn o is shut ];
+      chosen = near.chosen;
+      none = near.none;
     }
 
     -- an application, and so many of its asks
@@ -169,32 +187,26 @@ module _ {K : ℕ} (sight : Sight K) where
             none = λ many. absurd (let w = near.within in omega (arith, many, less, w));
           }
 
-      -- all of its asks, and the application that comes next
-      of_earlier : (o : Offer) → IsOffer sight o → (c : Ordering) → app_cmp sight o.app app ≡ c → (c ≡ Greater → ⊥) → ComesUpTo sight app (length app.asks) o
-      of_earlier o is Less e not = inl e
-      of_earlier o is Equal e not =
+      -- all of its asks, and the application that comes next: offers between are of applications that are shut
+      of_earlier : (o : Offer) → IsOffer sight o → (c : Ordering) → app_cmp sight o.app app ≡ c → (c ≡ Greater → IsShut sight o.app) → ComesUpTo sight app (length app.asks) o ⊎ IsShut sight o.app
+      of_earlier o is Less e late = inl (inl e)
+      of_earlier o is Equal e late =
           let same = same_app sight o.app app is.found waits.found e in
           let j = index_in app.asks o.ask (subst (λ (a : AppSight). IsIn o.ask a.asks) same is.member) in
-          inr (record { same = same; index = j.0; early = slice_get_within app.asks (j.0) o.ask (j.1); at = j.1 })
-      of_earlier o is Greater e not = absurd (not refl)
+          inl (inr (record { same = same; index = j.0; early = slice_get_within app.asks (j.0) o.ask (j.1); at = j.1 }))
+      of_earlier o is Greater e late = inr (late refl)
 
-      pub then_next : (next : AppSight) → IsNextApp sight (Some app) next → (o : Offer) → IsOffer sight o → ComesBefore sight (Some next) o → ComesUpTo sight app (length app.asks) o
-      then_next next is_next o is before = of_earlier o is (app_cmp sight o.app app) refl (λ late.
-          let not_after = is_next.first o.app (offer_waits sight o is) (turned o.app app late) in
-          let after = app_cmp_total.antisymm next o.app ∙ ap ordering_reverse before in
-          absurd (cc (not_after, after)))
+      pub then_next : (next : AppSight) → IsNextApp sight (Some app) next → (o : Offer) → IsOffer sight o → ComesBefore sight (Some next) o → ComesUpTo sight app (length app.asks) o ⊎ IsShut sight o.app
+      then_next next is_next o is before = of_earlier o is (app_cmp sight o.app app) refl (λ late. before_next next o before (is_next.first o.app (offer_waits sight o is) (turned o.app app late)))
 
-      pub then_none : HasNoNextApp sight (Some app) → (o : Offer) → IsOffer sight o → ComesUpTo sight app (length app.asks) o
+      pub then_none : HasNoNextApp sight (Some app) → (o : Offer) → IsOffer sight o → ComesUpTo sight app (length app.asks) o ⊎ IsShut sight o.app
       then_none none o is = of_earlier o is (app_cmp sight o.app app) refl (λ late. none o.app (offer_waits sight o is) (turned o.app app late))
 
-    -- before the first application there is none
-    pub first_of_all : (app : AppSight) → IsNextApp sight None app → (o : Offer) → IsOffer sight o → ComesBefore sight (Some app) o → ⊥
-    first_of_all app is_next o is before =
-        let not_after = is_next.first o.app (offer_waits sight o is) tt in
-        let after = app_cmp_total.antisymm app o.app ∙ ap ordering_reverse before in
-        absurd (cc (not_after, after))
+    -- before the first application all are shut
+    pub first_of_all : (app : AppSight) → IsNextApp sight None app → (o : Offer) → IsOffer sight o → ComesBefore sight (Some app) o → IsShut sight o.app
+    first_of_all app is_next o is before = before_next app o before (is_next.first o.app (offer_waits sight o is) tt)
 
-    pub no_first : HasNoNextApp sight None → (o : Offer) → IsOffer sight o → ⊥
+    pub no_first : HasNoNextApp sight None → (o : Offer) → IsOffer sight o → IsShut sight o.app
     no_first none o is = none o.app (offer_waits sight o is) tt
 
   -- how many applications are not served before one

@@ -49,7 +49,7 @@ struct Nearest<const K: usize> {
 
 /// The nearest node that holds no reservation and takes an ask, in the ring from the node at index `first` on. It goes from one
 /// application to the next in the order of service, and no further once the first node of the ring that holds no reservation takes
-/// an ask.
+/// an ask. Applications that this walk leaves out are shut: none of their asks may be proposed on a node that holds no reservation.
 fn nearest_taker<const K: usize, F: Farm<K>>(farm: &F, first: usize, count: usize) -> Nearest<K>
     requires fits { FarmFitsInMemory K.row F.row }
     requires whole { IsWhole (F.sight farm.now) }

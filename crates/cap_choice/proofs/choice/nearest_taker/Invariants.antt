@@ -7,6 +7,7 @@ abbrev pub invariant-loop-next : goal.invariant-loop-next
 invariant-loop-next g l = record {
   near : IsNearestBefore (g.F.Farm.sight l.farm) l.first (option_map (g.F.Farm.shown l.farm) l.next) l.nearest.turn l.nearest.proposal;
   has : IfSome l.next (λ app. g.F.Farm.has l.farm app);
+  served : IfSome l.next (λ app. g.F.Farm.served l.farm app);
   waits : IfSome l.next (λ app. IsWaiter (g.F.Farm.sight l.farm) (g.F.Farm.shown l.farm app));
 }
 
