@@ -138,7 +138,7 @@ module _ (K : ℕ) (tree : SeenRows) (registered : List AppSight) (apps : List S
     index_there other x = let lt = slice_get_within apps x.index x.app x.at in let n = as_many in omega (arith, lt, n)
 
     next_is : (result : Option ℕ) → IsNextServed tree.rows tree.waiting after result → MatchOption result (HasNoNextApp sight last) (λ n. IsNextApp sight last (nth n))
-    next_is None none = λ other w l. let x = some_nth other w in none x.index (index_there other x) (index_later other x l)
+    next_is None none = λ other w l. let x = some_nth other w in absurd (none x.index (index_there other x) (index_later other x l))
     next_is (Some n) f =
         let x = at_index apps n (let lt = f.there in let m = as_many in omega (arith, lt, m)) in
         subst (IsNextApp sight last) (sym (nth_is n (x.0) (x.1)))
@@ -147,8 +147,8 @@ module _ (K : ℕ) (tree : SeenRows) (registered : List AppSight) (apps : List S
           later = subst (λ T. T) (sym (later n (x.0) (x.1))) f.later;
           first = λ other w l.
               let y = some_nth other w in
-              subst (λ o. is_gt (app_cmp sight (shown (x.0)) o) ≡ false) y.is
-              (ap is_gt (sym (cmp_is n y.index (x.0) y.app (x.1) y.at)) ∙ f.first y.index (index_there other y) (index_later other y l));
+              inl (subst (λ o. is_gt (app_cmp sight (shown (x.0)) o) ≡ false) y.is
+              (ap is_gt (sym (cmp_is n y.index (x.0) y.app (x.1) y.at)) ∙ f.first y.index (index_there other y) (index_later other y l)));
         })
 
   pub first_served : (result : Option ℕ) → IsNextServed tree.rows tree.waiting None result → MatchOption result (HasNoNextApp sight None) (λ n. IsNextApp sight None (nth n))

@@ -20,6 +20,8 @@ impl<const K: usize, B: Allocator + Copy> Farm<K> for Snapshot<K, B> {
 
     ghost has = { λ seen app. app < length seen.waiting };
 
+    ghost served = { λ seen app. app < length seen.waiting };
+
     fn node_count(&self) -> usize {
         self.nodes.len()
     }

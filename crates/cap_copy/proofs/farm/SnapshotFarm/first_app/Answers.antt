@@ -13,6 +13,12 @@ returns-clause-has g c =
     let shown = apps_in inside.sources.items in
     rw (← c.self.view_is) (served_within g.row.K inside.tree shown inside.apps.items inside.asks.items inside.nodes.items inside.skips.items inside.live inside.next_container c.self.invariant None c.first_served.result c.first_served.ensures.next)
 
+pub returns-clause-served : goal.returns-clause-served
+returns-clause-served g c =
+    let inside = c.self.inside in
+    let shown = apps_in inside.sources.items in
+    rw (← c.self.view_is) (served_within g.row.K inside.tree shown inside.apps.items inside.asks.items inside.nodes.items inside.skips.items inside.live inside.next_container c.self.invariant None c.first_served.result c.first_served.ensures.next)
+
 pub returns-clause-first : goal.returns-clause-first
 returns-clause-first g c =
     let inside = c.self.inside in
