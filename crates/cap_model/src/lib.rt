@@ -16,6 +16,7 @@ mod replies;
 mod reply;
 mod report;
 mod request;
+mod request_view;
 mod response_ids;
 mod stored;
 
@@ -34,6 +35,7 @@ pub use replies::{
 pub use reply::{OwnedReply, Reply, ReplyView, ReplyWith};
 pub use report::{ClusterReport, QueueReport};
 pub use request::Request;
+pub use request_view::RequestView;
 pub use response_ids::{is_bad, next_response, repeats};
 pub use stored::StoredRequest;
 

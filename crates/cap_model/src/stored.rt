@@ -2,9 +2,11 @@
 //! (`StoredRequest`).
 ghost use Rattle.std.specs.Prelude.{◌≡◌, ◌≤◌, IfOk};
 ghost use Rattle.cap_base.specs.Limits.{resources_max};
+ghost use Rattle.cap_model.specs.Stored.{request_of};
 
 use crate::list::{Asks, Numbers};
 use crate::request::Request;
+use crate::request_view::RequestView;
 use cap_base::NoMemory;
 use std::alloc::Global;
 use std::marker::Model;
@@ -166,6 +168,40 @@ impl<const K: usize> StoredRequest<K> {
             RequestForm::NodeGone { node } => Ok(Request::NodeGone { node: *node }),
             RequestForm::ClusterInfo => Ok(Request::ClusterInfo),
             RequestForm::Long(request) => request.copy(alloc),
+        }
+    }
+
+    /// The same request, lent: nothing is copied.
+    #[inline(always)]
+    pub fn view(&self) -> RequestView<'_, K>
+        ensures { request_of result ≡ self.now }
+    {
+        match &self.form {
+            RequestForm::RegisterMaster { app } => RequestView::RegisterMaster { app: *app },
+            RequestForm::Allocate {
+                app,
+                response,
+                asks,
+                releases,
+            } => RequestView::Allocate {
+                app: *app,
+                response: *response,
+                asks,
+                releases,
+            },
+            RequestForm::FinishMaster { app } => RequestView::FinishMaster { app: *app },
+            RequestForm::Heartbeat {
+                node,
+                response,
+                ended,
+            } => RequestView::Heartbeat {
+                node: *node,
+                response: *response,
+                ended,
+            },
+            RequestForm::NodeGone { node } => RequestView::NodeGone { node: *node },
+            RequestForm::ClusterInfo => RequestView::ClusterInfo,
+            RequestForm::Long(request) => request.view(),
         }
     }
 }
