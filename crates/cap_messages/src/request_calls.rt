@@ -1,5 +1,4 @@
-//! The call that a request names, made on the cluster and answered (`dispatch`, `dispatch_view` for one that is lent, and `make` for one
-//! that is ready).
+//! The call that a request names, made on the cluster and answered (`dispatch`, `dispatch_view` for one lent, `make` for one ready).
 ghost use Rattle.cap_model.specs.Reporting.{HasNumbers, RepliesInFull, full_reply};
 ghost use Rattle.cap_model.specs.Stored.{request_of};
 ghost use Rattle.std.specs.Prelude.{◌≡◌};
