@@ -34,6 +34,7 @@ pub struct ReplyCopies {
 
 /// Room for the replies to an Allocate, whatever it is answered now; the reply to any other call needs none. If an allocation fails
 /// there is none.
+#[inline(always)]
 fn news_rooms(
     alloc: Global,
     cluster: &Cluster<RESOURCES>,
@@ -61,6 +62,7 @@ fn news_rooms(
 }
 
 /// The reply that the cluster has just given, twice. It takes no memory.
+#[inline(always)]
 pub(crate) fn own_copies(
     alloc: Global,
     news: Option<NewsRooms>,
@@ -96,6 +98,7 @@ fn tells_nothing(reply: &Reply<RESOURCES>) -> bool
 }
 
 /// The reply that a cluster has just given, where it reports no grant and no end. It takes no memory.
+#[inline(always)]
 fn own_without_lists(alloc: Global, reply: &Reply<RESOURCES>) -> OwnedReply<RESOURCES>
     requires { tells_nothing reply.now ≡ true }
     ensures { (cluster : Flat resources) → HasNumbers cluster reply.now
@@ -124,6 +127,7 @@ pub struct CallRoom {
 
 impl CallRoom {
     /// The memory for a call, whatever it is answered now, with room for its receipt. If an allocation fails there is none.
+    #[inline(always)]
     pub fn of(
         alloc: Global,
         cluster: &Cluster<RESOURCES>,

@@ -5,10 +5,10 @@ ghost use Rattle.cap_model.specs.Replies.{after_request};
 ghost use Rattle.cap_shared.specs.declared.deed.Deed.TheVariants as deed;
 ghost use Rattle.cap_shared.specs.Following.{deed_of, IsMadeAgain};
 
-use crate::call_room::{is_no_memory, make_call};
+use crate::call_room::is_no_memory;
 use cap_base::RESOURCES;
 use cap_commit::Cluster;
-use cap_messages::ReadyRequest;
+use cap_messages::dispatch_view;
 use cap_model::{
     Event, NoMemory, OwnedReply, Proposal, ProposalKind, Refusal, ReplyWith, StoredRequest,
 };
@@ -90,8 +90,7 @@ fn call_again(
     ensures ok { OnOk result (IsMadeAgain cluster.old.flat (deed.Call request.now) cluster.new.flat) }
     ensures err { OnErr result (cluster.new.flat ≡ cluster.old.flat) }
 {
-    let request = request.request(alloc)?;
-    let answer = make_call(cluster, &ReadyRequest::of(alloc, &request));
+    let answer = dispatch_view(alloc, cluster, request.view());
     if is_no_memory(&answer) {
         return Err(NoMemory);
     }

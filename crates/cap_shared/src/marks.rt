@@ -13,6 +13,7 @@ use cap_model::{Proposal, Reason, Request};
 use http_server::Log;
 
 /// Appends an entry to the journal, and its receipt to those of the seat. There is room for both.
+#[inline(always)]
 pub(crate) fn enter(
     word: &Word,
     desk: &mut Pass,
