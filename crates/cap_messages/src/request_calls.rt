@@ -58,6 +58,7 @@ pub fn make(cluster: &mut Cluster<RESOURCES>, ready: &ReadyRequest<'_>) -> Reply
 }
 
 /// Makes the call that a request names; a Refresh takes these settings, which are those of its lines.
+#[inline(always)]
 fn make_named(
     cluster: &mut Cluster<RESOURCES>,
     request: RequestView<'_, RESOURCES>,
