@@ -2,12 +2,16 @@
 //!
 //! | it is | until | and then |
 //! |---|---|---|
-//! | proposing | a grant or a reservation was made, or rejected | proposing, one node later |
+//! | proposing | a grant or a reservation was made | proposing, one node later |
+//! | proposing | what it proposed was rejected | worker 0: proposing, one node later; any other: resting |
 //! | proposing | there is nothing to propose, or memory is wanting | resting |
 //! | proposing | what it chose lies in its lane | waiting for an answer |
-//! | waiting for an answer | who holds the cluster has committed that | proposing, or resting where memory is wanting |
-//! | resting | the journal has grown and its rest is over | proposing |
+//! | waiting for an answer | who holds the cluster has committed that | as above where it was made or rejected; else resting |
+//! | resting | its rest is over; where it found nothing, the journal has grown | proposing |
 //! | any of these | the journal is full, or the signal is raised | leaving |
+//!
+//! Each rest is twice as long as the one before, until a proposal of the worker is made (`Pause`). So workers that choose the same keep out of each
+//! other's way, and one of them, worker 0, goes on at full pace whatever is rejected.
 ghost use Rattle.std.specs.Prelude.{◌≡◌, []};
 ghost use Rattle.std.specs.Option.{ForSome};
 ghost use Rattle.cap_workers.specs.Following.{IsFollowingOffer, IsFollowingTurn};
@@ -50,8 +54,10 @@ pub struct Direction<'a, J: LaneNaming, S, G> {
 /// What a worker does after a turn.
 #[derive(Clone, Copy, PartialEq, Eq)]
 enum Next {
-    /// It proposes again.
+    /// Its proposal was made: it proposes again.
     Propose,
+    /// Its proposal was rejected: worker 0 proposes again, any other rests for a while.
+    GiveWay,
     /// There was nothing to propose: it rests until the journal has grown.
     Rest,
     /// An allocation failed: it rests for a while.
@@ -63,7 +69,8 @@ enum Next {
 impl Next {
     fn after_turn(end: TurnEnd) -> Next {
         match end {
-            TurnEnd::Done(_) | TurnEnd::Rejected(_) => Next::Propose,
+            TurnEnd::Done(_) => Next::Propose,
+            TurnEnd::Rejected(_) => Next::GiveWay,
             TurnEnd::Nothing => Next::Rest,
             TurnEnd::NoMemory => Next::Retry,
             TurnEnd::Sealed(_) => Next::Leave,
@@ -73,7 +80,8 @@ impl Next {
     /// Where what was put has this outcome.
     fn after_answer(outcome: CommitOutcome) -> Next {
         match outcome {
-            CommitOutcome::Made | CommitOutcome::Rejected => Next::Propose,
+            CommitOutcome::Made => Next::Propose,
+            CommitOutcome::Rejected => Next::GiveWay,
             CommitOutcome::Unmade => Next::Retry,
         }
     }
@@ -278,7 +286,7 @@ impl<J: LaneNaming> Turning<J> {
         ensures { Turns J.opening J.limit self.old.worker (seat_of self.old.seeing)
             self.new.worker (seat_of self.new.seeing) }
     {
-        let mut rest = Rest::new();
+        let mut rest = Rest::of(self.worker.number);
         for _ in rt.forever() {
             if direction.signal.is_raised(rt) {
                 return;
@@ -348,7 +356,7 @@ impl<J: LaneNaming> Turning<J> {
         ensures { Offers J.opening self.old.worker (seat_of self.old.seeing) putter.old
             self.new.worker (seat_of self.new.seeing) putter.new }
     {
-        let mut rest = Rest::new();
+        let mut rest = Rest::of(self.worker.number);
         for _ in rt.forever() {
             if direction.signal.is_raised(rt) {
                 return;
@@ -421,13 +429,17 @@ struct Rest {
     pause: Pause,
     /// How many entries the journal had when the worker began to look at it last.
     seen: usize,
+    /// Whether it rests where its proposal was rejected.
+    gives_way: bool,
 }
 
 impl Rest {
-    fn new() -> Rest {
+    /// The rest of the worker of this number. All but worker 0 give way.
+    fn of(worker: u32) -> Rest {
         Rest {
             pause: Pause::first(),
             seen: 0,
+            gives_way: worker != 0,
         }
     }
 
@@ -446,7 +458,11 @@ impl Rest {
         next: Next,
     ) -> bool {
         match next {
-            Next::Propose => {
+            Next::GiveWay if self.gives_way => {
+                self.pause.end_look(rt);
+                self.pause.wait(rt, signal);
+            }
+            Next::Propose | Next::GiveWay => {
                 self.pause.begin_anew();
                 return true;
             }
