@@ -54,13 +54,13 @@ pub trait Play {
     /// What it sees.
     type Seen;
 
-    /// With worker 0, and a seat to make calls with. `None` if something failed that must not.
+    /// With a worker, and a seat to make calls with. `None` if something failed that must not.
     fn play<J: LaneNaming, H: Wait + Clock>(
         &self,
         rt: &H,
         alloc: Global,
         shared: &Shared<J>,
-        caller: &mut Seat<J>,
+        caller: Seat<J>,
         own: Scheduler<J>,
     ) -> Option<Self::Seen>;
 }
@@ -171,9 +171,24 @@ pub fn following<J: LaneNaming>(own: Scheduler<J>) -> Option<(Worker, Follower<J
     }
 }
 
-/// Plays in an epoch with one caller.
+/// Plays in an epoch with one caller and worker 0, which follows.
 pub fn play_in<H: Wait + Clock, P: Play>(rt: &H, alloc: Global, play: &P) -> Option<P::Seen> {
-    let opening = open_for(alloc, 1)?;
+    play_with(rt, alloc, 0, false, play)
+}
+
+/// The same with the worker of this number, which follows or copies.
+pub fn play_with<H: Wait + Clock, P: Play>(
+    rt: &H,
+    alloc: Global,
+    number: u32,
+    copies: bool,
+    play: &P,
+) -> Option<P::Seen> {
+    let mut opening = open_for(alloc, 1)?;
+    opening.worker.worker = Worker::new(number);
+    if copies {
+        opening.worker.cluster = None;
+    }
     play_under_name::<Brand, H, P>(rt, alloc, opening, play)
 }
 
@@ -196,6 +211,6 @@ fn play_under_name<J: LaneNaming, H: Wait + Clock, P: Play>(
         mut seats,
         own,
     } = begin::<J, H>(rt, alloc, opening, LIMIT)?;
-    let mut caller = seats.pop()?;
-    play.play(rt, alloc, &shared, &mut caller, own)
+    let caller = seats.pop()?;
+    play.play(rt, alloc, &shared, caller, own)
 }

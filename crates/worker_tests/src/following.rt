@@ -41,15 +41,15 @@ impl Play for SixTurns {
         rt: &H,
         alloc: Global,
         shared: &Shared<J>,
-        caller: &mut Seat<J>,
+        mut caller: Seat<J>,
         own: Scheduler<J>,
     ) -> Option<Vec<Came>> {
         let (mut worker, mut follower) = following(own)?;
         let mut came = Vec::new(alloc);
-        call_all(rt, alloc, shared, caller, &THREE_ASKED)?;
+        call_all(rt, alloc, shared, &mut caller, &THREE_ASKED)?;
         for turn in 0..6 {
             if turn == 4 {
-                call_all(rt, alloc, shared, caller, &ONE_MORE)?;
+                call_all(rt, alloc, shared, &mut caller, &ONE_MORE)?;
             }
             let end = worker.follow(rt, shared, &mut follower, &OpenGate);
             came.push(came_of(&end)).ok()?;
@@ -115,7 +115,7 @@ impl Play for ThreeOffers {
         rt: &H,
         alloc: Global,
         shared: &Shared<J>,
-        caller: &mut Seat<J>,
+        mut caller: Seat<J>,
         own: Scheduler<J>,
     ) -> Option<[Option<u64>; 3]> {
         let (mut committer, mut putters) = new_lanes(alloc)?;
@@ -124,7 +124,7 @@ impl Play for ThreeOffers {
         let mut seen = [None; 3];
         for place in 0..3 {
             if place == 1 {
-                call_all(rt, alloc, shared, caller, &THREE_ASKED)?;
+                call_all(rt, alloc, shared, &mut caller, &THREE_ASKED)?;
             }
             seen[place] = offered(
                 rt,

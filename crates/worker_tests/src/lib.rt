@@ -14,8 +14,9 @@ mod epochs;
 #[cfg(test)]
 mod following;
 #[cfg(test)]
-mod in_step;
+mod giving_way;
 #[cfg(test)]
+mod in_step;
 #[cfg(test)]
 mod picture;
 #[cfg(test)]

@@ -69,11 +69,11 @@ impl Play for Schedule {
         rt: &H,
         alloc: Global,
         shared: &Shared<J>,
-        caller: &mut Seat<J>,
+        mut caller: Seat<J>,
         own: Scheduler<J>,
     ) -> Option<([u128; PAUSES], usize)> {
         if self.asks {
-            call_all(rt, alloc, shared, caller, &THREE_ASKED)?;
+            call_all(rt, alloc, shared, &mut caller, &THREE_ASKED)?;
         }
         let (coordinator, rests) = (Coordinator::new(), Rests::new());
         let direction = Direction {
