@@ -20,6 +20,8 @@ mod in_step;
 #[cfg(test)]
 mod picture;
 #[cfg(test)]
+mod refreshing;
+#[cfg(test)]
 mod refused;
 #[cfg(test)]
 mod resting;
