@@ -11,6 +11,9 @@ use Rattle.cap_shared.proofs.Crossing.{Replica-send}
 use Rattle.cap_shared.proofs.seat.Seat.TheSendSync as seat
 use Rattle.cap_shared.specs.declared.seat.Naming as naming
 use Rattle.cap_workers.specs.declared.lane.LaneNaming as lane_naming
+use Rattle.cap_workers.proofs.mailbox.Posted.TheSendSync as posted
+use Rattle.cap_workers.specs.contracts.committer.FinishedLanes as FinishedLanes
+use Rattle.cap_workers.specs.contracts.committer.FinishedLanes.TheInside as finished_lanes
 use Rattle.cap_workers.specs.contracts.committer.LaneCommitter as LaneCommitter
 use Rattle.cap_workers.specs.contracts.committer.LaneCommitter.TheInside as lane_committer
 use Rattle.cap_workers.specs.contracts.follower.Follower as Follower
@@ -53,7 +56,14 @@ module _ (J : RattleType) (lanes : lane_naming.Ghosts J.Denot) (epoch : naming.G
   LaneCommitter-send s =
       view_send (lane_committer.the_row J lanes epoch) _ _ _ _ (recorded_send (lane_committer.the_field J lanes epoch).row _ _ (lane_committer.the_type J lanes epoch).to_one (struct_send (shape (lane_committer.the_type J lanes epoch)) (
         (search (committer.the_send, crosses, sendable) depth 60),
-        ((search (seat.the_send, crosses, sendable) depth 60), ((search (EndedLane-send, crosses, sendable) depth 60), tt)),
+        ((search (seat.the_send, crosses, sendable) depth 60), ((search (EndedLane-send, crosses, sendable) depth 60), ((search (posted.the_send, crosses, sendable) depth 60), tt))),
+      )))
+
+  FinishedLanes-send : IsSend J → IsSend (FinishedLanes.the_row J lanes epoch)
+  FinishedLanes-send s =
+      view_send (finished_lanes.the_row J lanes epoch) _ _ _ _ (recorded_send (finished_lanes.the_field J lanes epoch).row _ _ (finished_lanes.the_type J lanes epoch).to_one (struct_send (shape (finished_lanes.the_type J lanes epoch)) (
+        (search (LaneCommitter-send, crosses, sendable) depth 60),
+        tt,
       )))
 
   -- as fields of others
@@ -84,5 +94,5 @@ module _ (J : RattleType) (lanes : lane_naming.Ghosts J.Denot) (epoch : naming.G
   Done-send s =
       recorded_send (Done.the_field J lanes epoch).row _ _ (Done.the_type J lanes epoch).to_one (enum_send (enum.shape (Done.the_type J lanes epoch)) (
         ((search (connection.the_field_send, crosses, sendable) depth 60), ((search (seat.the_send, crosses, sendable) depth 60), tt)),
-        (((search (seat.the_send, crosses, sendable) depth 60), tt), (((search (Scheduled-send, crosses, sendable) depth 60), tt), (((search (LaneCommitter-send, crosses, sendable) depth 60), tt), (tt, tt)))),
+        (((search (seat.the_send, crosses, sendable) depth 60), tt), (((search (Scheduled-send, crosses, sendable) depth 60), tt), (((search (FinishedLanes-send, crosses, sendable) depth 60), tt), (tt, tt)))),
       ))

@@ -6,7 +6,7 @@ use cap_connections::ClientConnection;
 use cap_model::NoMemory;
 use cap_shared::Seat;
 use cap_streams::EndSignal;
-use cap_workers::{LaneCommitter, LaneNaming, Scheduled};
+use cap_workers::{FinishedLanes, LaneNaming, Scheduled};
 use std::alloc::Global;
 use std::sync::Wait;
 use std::thread::{JoinHandle, Threads};
@@ -38,7 +38,7 @@ pub(crate) struct Left<J: LaneNaming> {
     pub workers: Vec<Scheduled<J>>,
     pub seats: Vec<Seat<J>>,
     /// What was committed out of the lanes, if the epoch had any.
-    pub lanes: Option<LaneCommitter<J>>,
+    pub lanes: Option<FinishedLanes<J>>,
 }
 
 /// A thread, and the number of the seat that it serves a connection with, if it does.
@@ -73,7 +73,7 @@ pub(crate) struct EpochThreads<J: LaneNaming> {
     pub connections: Vec<ClientConnection>,
     pub workers: Vec<Scheduled<J>>,
     /// What was committed out of the lanes, once the committer's thread has ended.
-    pub lanes: Option<LaneCommitter<J>>,
+    pub lanes: Option<FinishedLanes<J>>,
     /// How many connections have ended whose places were not given on yet.
     pub ended: u32,
     /// Whether an allocation failed, or a thread could not be made.

@@ -6,8 +6,8 @@ use cap_connections::{ClientConnection, Given, Place};
 use cap_shared::{Entry, Seat, SeatReport, Shared};
 use cap_streams::EndSignal;
 use cap_workers::{
-    Coordinator, Direction, Gate, LaneCommitter, LaneNaming, Scheduled, Scheduler, StopSignal,
-    commit_all,
+    Coordinator, Direction, FinishedLanes, Gate, LaneCommitter, LaneNaming, Scheduled, Scheduler,
+    StopSignal, commit_all,
 };
 use std::sync::Wait;
 use std::time::{Clock, Duration};
@@ -60,7 +60,7 @@ pub(crate) enum Done<J: LaneNaming> {
     Ended(Seat<J>),
     Worker(Scheduled<J>),
     /// What the lanes are closed with.
-    Committer(LaneCommitter<J>),
+    Committer(FinishedLanes<J>),
     /// Nothing was given to the thread, or it has nothing to give back.
     Nothing,
 }

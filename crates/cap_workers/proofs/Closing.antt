@@ -8,6 +8,7 @@ use Rattle.cap_base.specs.Members.{IsIn}
 use Rattle.cap_base.proofs.lists.Members.{in_left, in_right}
 use Rattle.cap_lanes.specs.Items.{tagged}
 use Rattle.cap_lanes.specs.Sides.{AllOf, CommitterSide, LanesId, WorkerSide, eight_workers, ends_of, put_by, worker_side}
+use Rattle.cap_workers.specs.declared.gate.CommitOutcome.{CommitOutcome}
 use Rattle.cap_workers.specs.Lanes.{IsCommitting, IsLane, IsNewLane, LanesClose, LanesEnd, StayIn}
 
 -- all of them are of one name
@@ -66,16 +67,17 @@ lane_in name e (x ∷ xs) (inl same) all = subst (λ (l : WorkerSide). l.worker 
 lane_in name e (x ∷ xs) (inr later) all = lane_in name e xs later (All-drop (IsLane name) 1 (x ∷ xs) all)
 
 -- the lanes are closed, and the committer's seat comes to the others
-pub closed_lanes : (name : Option LanesId) (limit : ℕ) (seats seats' : List Sitting) (side : CommitterSide) (seat : Sitting) (left : List (ℕ × NodeProposal)) (ended more ends : List WorkerSide) → seats' ≡ seats ++ seat ∷ [] → ends ≡ ended ++ more → IsCommitting name limit side seat → All (IsLane name) ends →
-    ((w : ℕ) → tagged w side.taken ++ tagged w left ≡ put_by w ends) → ((w : ℕ) → w < 8 → ends_of w ends ≡ 1) → LanesEnd limit seats' ended
-closed_lanes name limit seats seats' side seat left ended more ends seats_are is committing lanes each once =
+pub closed_lanes : (name : Option LanesId) (limit : ℕ) (seats seats' : List Sitting) (side : CommitterSide) (seat : Sitting) (posted : List (ℕ × CommitOutcome)) (left : List (ℕ × NodeProposal)) (ended more ends : List WorkerSide) → seats' ≡ seats ++ seat ∷ [] → ends ≡ ended ++ more → IsCommitting name limit side seat posted → All (IsLane name) ends →
+    ((w : ℕ) → tagged w side.taken ++ tagged w left ≡ put_by w ends) → left ≡ [] → ((w : ℕ) → w < 8 → ends_of w ends ≡ 1) → LanesEnd limit seats' ended
+closed_lanes name limit seats seats' side seat posted left ended more ends seats_are is committing lanes each none once =
+    let all : (w : ℕ) → tagged w side.taken ≡ put_by w ends = λ w. sym (append-nil (tagged w side.taken)) ∙ subst (λ (ps : List (ℕ × NodeProposal)). tagged w side.taken ++ tagged w ps ≡ put_by w ends) none (each w) in
     let closed : LanesClose limit (seats ++ seat ∷ []) ends = record {
       seat = seat;
       member = in_right seat seats (seat ∷ []) (inl refl);
       taken = side.taken;
+      posted = posted;
       committed = committing.1;
-      left = left;
-      each = λ e member. each e.worker ∙ put_alone e ends member (once e.worker (lane_in name e ends member lanes));
+      each = λ e member. all e.worker ∙ put_alone e ends member (once e.worker (lane_in name e ends member lanes));
       once = once;
     } in
     rw seats_are (inr (more, subst (λ (es : List WorkerSide). LanesClose limit (seats ++ seat ∷ []) es) is closed))

@@ -31,22 +31,19 @@ next_taken limit old mid new before now after told (w, outcome) (taken, is, comm
 
 -- what is committed with one seat, piece by piece
 commits_then : {limit : ℕ} {a b c : Sitting} {ys : List (ℕ × NodeProposal)} {more : List (ℕ × CommitOutcome)} (xs : List (ℕ × NodeProposal)) (told : List (ℕ × CommitOutcome)) → Commits limit a xs told b → Commits limit b ys more c →
-    (all : List (ℕ × CommitOutcome)) × Commits limit a (xs ++ ys) all c
-commits_then xs told x commits_none = (told, rw (append-nil xs) x)
-commits_then xs told x (commits_one {taken = taken} before worker p end one) =
-    let y = commits_then xs told x before in
-    (y.0 ++ (worker, outcome_at end) ∷ [], rw (sym (append_assoc xs taken ((worker, p) ∷ []))) (commits_one y.1 worker p end one))
+    Commits limit a (xs ++ ys) (told ++ more) c
+commits_then xs told x commits_none = rw (append-nil xs, append-nil told) x
+commits_then xs told x (commits_one {taken = taken} {told = more} before worker p end one) =
+    rw (sym (append_assoc xs taken ((worker, p) ∷ [])), sym (append_assoc told more ((worker, outcome_at end) ∷ []))) (commits_one (commits_then xs told x before) worker p end one)
 
 -- a seat that was answered nothing, of lanes out of which nothing was taken
-pub committing_none : (name : Option LanesId) (limit : ℕ) (side : CommitterSide) (seat : Sitting) → Some side.lanes ≡ name → side.taken ≡ [] → seat.past ≡ [] → IsCommitting name limit side seat
-committing_none name limit side seat named none fresh =
+pub committing_none : (name : Option LanesId) (limit : ℕ) (side : CommitterSide) (seat : Sitting) (posted : List (ℕ × CommitOutcome)) → Some side.lanes ≡ name → side.taken ≡ [] → seat.past ≡ [] → posted ≡ [] → IsCommitting name limit side seat posted
+committing_none name limit side seat posted named none fresh empty =
     let same : sitting seat.seat [] ≡ seat = ap (sitting seat.seat) (sym fresh) in
     let nothing : Commits limit (sitting seat.seat []) side.taken [] (sitting seat.seat []) = rw none commits_none in
-    (named, (seat.seat, [], subst (λ (s : Sitting). Commits limit (sitting seat.seat []) side.taken [] s) same nothing))
+    (named, (seat.seat, rw empty (subst (λ (s : Sitting). Commits limit (sitting seat.seat []) side.taken [] s) same nothing)))
 
 -- more was taken out of the lanes and committed
-pub committing_more : (name : Option LanesId) (limit : ℕ) (before after : CommitterSide) (old new : Sitting) (told : List (ℕ × CommitOutcome)) → IsCommitting name limit before old → after.lanes ≡ before.lanes → CommitsTaken limit old new before after told →
-    IsCommitting name limit after new
-committing_more name limit before after old new told (named, (n, was, commits)) same (taken, is, more) =
-    let y = commits_then before.taken was commits more in
-    (ap Some same ∙ named, (n, y.0, rw is y.1))
+pub committing_more : (name : Option LanesId) (limit : ℕ) (before after : CommitterSide) (old new : Sitting) (was posted told : List (ℕ × CommitOutcome)) → IsCommitting name limit before old was → after.lanes ≡ before.lanes → CommitsTaken limit old new before after told →
+    posted ≡ was ++ told → IsCommitting name limit after new posted
+committing_more name limit before after old new was posted told (named, (n, commits)) same (taken, is, more) noted = (ap Some same ∙ named, (n, rw (is, noted) (commits_then before.taken was commits more)))

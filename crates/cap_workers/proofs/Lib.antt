@@ -6,3 +6,4 @@ mod Closing
 mod Outcomes
 mod Leavers
 mod Turns
+mod Numbers

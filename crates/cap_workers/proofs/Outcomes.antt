@@ -1,5 +1,5 @@
 -- What came of commits, place by place.
-use Rattle.cap_workers.proofs.Prelude.{◌≡◌, ℕ, zero, suc, ◌+◌, ◌<◌, Option, Some, None, List, [], ◌∷◌, ◌++◌, length, set, arith, refl, sym, ◌∙◌, ap, subst}
+use Rattle.cap_workers.proofs.Prelude.{◌≡◌, ℕ, zero, suc, ◌+◌, ◌<◌, Option, Some, None, List, [], ◌∷◌, ◌++◌, length, set, append-nil, append_assoc, arith, refl, sym, ◌∙◌, ap, subst}
 use Rattle.cap_workers.specs.Committing.{held_in}
 use Rattle.cap_workers.specs.declared.gate.CommitOutcome.{CommitOutcome}
 
@@ -40,3 +40,10 @@ as_many_places zero [] x = refl
 as_many_places zero (s ∷ ss) x = refl
 as_many_places (suc n) [] x = refl
 as_many_places (suc n) (s ∷ ss) x = ap suc (as_many_places n ss x)
+
+-- one answer more lies in the mailboxes, or none
+pub one_posted : (old mid new told : List (ℕ × CommitOutcome)) (x : ℕ × CommitOutcome) {told' : List (ℕ × CommitOutcome)} → told' ≡ told ++ x ∷ [] → mid ≡ old ++ told → new ≡ mid ++ x ∷ [] → new ≡ old ++ told'
+one_posted old mid new told x is so_far one = rw (one, so_far, is) (append_assoc old told (x ∷ []))
+
+pub none_posted : (old mid new told : List (ℕ × CommitOutcome)) → mid ≡ old ++ told → new ≡ mid ++ [] → new ≡ old ++ told
+none_posted old mid new told so_far none = none ∙ append-nil mid ∙ so_far

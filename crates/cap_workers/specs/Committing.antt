@@ -23,9 +23,9 @@ pub data Commits (limit : ℕ) (old : Sitting) : List (ℕ × NodeProposal) → 
   commits_one : {taken : List (ℕ × NodeProposal)} {told : List (ℕ × CommitOutcome)} {mid new : Sitting} → Commits limit old taken told mid → (worker : ℕ) (p : NodeProposal) (end : TurnEnd) → IsCommitted p limit mid new end
       → Commits limit old (taken ++ (worker, p) ∷ []) (told ++ (worker, outcome_at end) ∷ []) new
 
--- all that a seat was answered: these proposals were committed one after the other, each once
-abbrev pub CommitsAll : ℕ → List (ℕ × NodeProposal) → Sitting → Type 0
-CommitsAll limit taken seat = (n : ℕ) × (told : List (ℕ × CommitOutcome)) × Commits limit (sitting n []) taken told seat
+-- all that a seat was answered: these proposals were committed one after the other, each once, and this came of them
+abbrev pub CommitsAll : ℕ → List (ℕ × NodeProposal) → List (ℕ × CommitOutcome) → Sitting → Type 0
+CommitsAll limit taken told seat = (n : ℕ) × Commits limit (sitting n []) taken told seat
 
 -- what was taken out of the lanes was committed, in the order in which it was taken, and this came of it
 abbrev pub CommitsTaken : ℕ → Sitting → Sitting → CommitterSide → CommitterSide → List (ℕ × CommitOutcome) → Type 0

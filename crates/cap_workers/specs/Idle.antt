@@ -45,8 +45,8 @@ abbrev pub AllBegin : List Entry → List (Worker × Option Content) → Type 0
 AllBegin journal workers = All (λ w. IfSome w.1 (λ own. IsPrefix own.log journal)) workers
 
 -- A closed epoch: its journal, at most as long as the limit, leads from the opening to the closing cluster. What its seats were answered fits the
--- journal. Those of the workers, each as it began and as it has left, were answered what these did: turns, or offers, and nothing else. What they put into
--- lanes was taken and committed, each once, or was left.
+-- journal. Those of the workers, each as it began and as it has left, were answered what these did: turns, or offers, and nothing else. All that they put
+-- into lanes was taken and committed, each once, and what came of each was put into the mailbox of its worker.
 pub record ClosesEpoch (opening : Flat resources) (limit count : ℕ) (workers : List (Worker × Worker)) (journal : List Entry) (closing : Flat resources) : Type 0 where
   pub run : Replays opening journal closing
   pub within : length journal ≤ limit

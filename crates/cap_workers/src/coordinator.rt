@@ -1,11 +1,12 @@
 //! What the workers and the committer of an epoch share beside the cluster (`Coordinator`).
-ghost use Rattle.std.specs.Prelude.{IfSome};
+ghost use Rattle.std.specs.Prelude.{◌≡◌, IfSome};
 ghost use Rattle.cap_lanes.specs.Sides.{AllOver};
 ghost use Rattle.cap_workers.specs.Lanes.{IsCommitting};
 
 use crate::committer::LaneCommitter;
 use crate::gate::{CommitOutcome, Gate, Point};
 use crate::lane::LaneNaming;
+use crate::mailbox::{Answer, Mailboxes};
 use std::sync::{Mutex, MutexGuard, Wait};
 use std::thread::Parker;
 
@@ -15,36 +16,6 @@ pub(crate) const BATCH: usize = 8;
 /// What came of proposals that were committed while the cluster was held once, each with its worker's number.
 pub(crate) type Outcomes = [Option<(u32, CommitOutcome)>; BATCH];
 
-/// What is answered to a worker.
-#[derive(Drop)]
-struct Mailbox {
-    /// What came of the proposal that the worker has put, until the worker has seen it.
-    outcome: Mutex<Option<CommitOutcome>>,
-    /// Where the worker waits for it.
-    worker: Parker,
-}
-
-impl Mailbox {
-    fn new() -> Mailbox {
-        Mailbox {
-            outcome: Mutex::new(None),
-            worker: Parker::new(),
-        }
-    }
-
-    /// Waits until the worker's proposal is answered.
-    fn await_answer<R: Wait>(&self, rt: &R) -> CommitOutcome {
-        for _ in rt.forever() {
-            let answered = self.outcome.lock(rt).take();
-            if let Some(outcome) = answered {
-                return outcome;
-            }
-            self.worker.park(rt);
-        }
-        unreachable!()
-    }
-}
-
 /// What the workers and the committer of an epoch share beside the cluster.
 #[derive(Drop)]
 pub struct Coordinator<J: LaneNaming> {
@@ -52,8 +23,8 @@ pub struct Coordinator<J: LaneNaming> {
     lanes: Mutex<Option<LaneCommitter<J>>>,
     /// Where the committer's thread waits.
     committer: Parker,
-    /// By the number of the worker.
-    answers: [Mailbox; 8],
+    /// Where the workers are answered.
+    pub(crate) mailboxes: Mailboxes,
 }
 
 impl<J: LaneNaming> Coordinator<J> {
@@ -62,16 +33,7 @@ impl<J: LaneNaming> Coordinator<J> {
         Coordinator {
             lanes: Mutex::new(None),
             committer: Parker::new(),
-            answers: [
-                Mailbox::new(),
-                Mailbox::new(),
-                Mailbox::new(),
-                Mailbox::new(),
-                Mailbox::new(),
-                Mailbox::new(),
-                Mailbox::new(),
-                Mailbox::new(),
-            ],
+            mailboxes: Mailboxes::new(),
         }
     }
 
@@ -85,7 +47,7 @@ impl<J: LaneNaming> Coordinator<J> {
     pub(crate) fn take_over<R: Wait>(&self, rt: &R) -> Option<LaneCommitter<J>>
         ensures over { IfSome result (λ lanes. AllOver lanes.side.over) }
         ensures commits { IfSome result (λ lanes.
-            IsCommitting J.lanes J.limit lanes.side lanes.seat) }
+            IsCommitting J.lanes J.limit lanes.side lanes.seat lanes.posted) }
     {
         let mut open = self.lanes.lock(rt);
         let lanes = open.take()?;
@@ -111,27 +73,18 @@ impl<J: LaneNaming> Coordinator<J> {
         self.committer.unpark();
     }
 
-    /// Notifies the gate and the workers what came of their proposals.
-    pub(crate) fn notify<R: Wait, G: Gate>(&self, rt: &R, gate: &G, outcomes: &Outcomes) {
+    /// Notifies the gate what came of proposals, and wakes the workers, in whose mailboxes that lies.
+    pub(crate) fn notify<G: Gate>(&self, gate: &G, outcomes: &Outcomes) {
         for (worker, outcome) in outcomes.iter().flatten() {
             gate.at(*worker, Point::Committed(*outcome));
-            self.answer(rt, *worker, *outcome);
+            self.mailboxes.wake(*worker);
         }
     }
 
-    /// The proposal that the worker has put is answered.
-    fn answer<R: Wait>(&self, rt: &R, worker: u32, outcome: CommitOutcome) {
-        if let Some(answer) = self.answers.get(worker as usize) {
-            *answer.outcome.lock(rt) = Some(outcome);
-            answer.worker.unpark();
-        }
-    }
-
-    /// Waits until the proposal is answered that the worker of this number has put.
-    pub(crate) fn await_answer<R: Wait>(&self, rt: &R, worker: u32) -> CommitOutcome {
-        match self.answers.get(worker as usize) {
-            Some(mailbox) => mailbox.await_answer(rt),
-            None => CommitOutcome::Unmade,
-        }
+    /// Waits until the proposal is answered that the worker of this number has put, and takes the answer out of its mailbox. `None` if it has none.
+    pub(crate) fn await_answer<R: Wait>(&self, rt: &R, worker: u32) -> Option<Answer>
+        ensures { IfSome result (λ answer. answer.worker ≡ worker) }
+    {
+        self.mailboxes.await_answer(rt, worker)
     }
 }

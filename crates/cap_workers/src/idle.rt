@@ -7,7 +7,7 @@ ghost use Rattle.cap_shared.specs.WordRule.{fresh};
 ghost use Rattle.cap_workers.specs.Idle.{AllAre, AllBegin, AllFollowed, ClosesEpoch, HasSpell, IsFresh};
 ghost use Rattle.cap_workers.specs.Scheduling.{seat_of, spell};
 
-use crate::committer::{LaneCommitter, close_lanes};
+use crate::committer::{FinishedLanes, LaneCommitter, close_lanes};
 use crate::lane::{BlankLanes, EndedLane, EpochLanes, Lane, LaneNaming};
 use crate::scheduler::{Scheduled, Scheduler};
 use crate::seeing::Seeing;
@@ -131,16 +131,16 @@ fn lane_of<J: LaneNaming>(lanes: &mut Option<EpochLanes<J>>, number: u32) -> Opt
 }
 
 /// Closes an epoch: all its seats come back, some with workers, and its lanes, if it had any, are closed. What the seat of each worker was answered is
-/// what it did, from the node on at which it began; what it put into its lane was taken and committed, each once, or is left, and then dropped. Each worker
-/// with a cluster of its own makes what that lacks of the journal again, so it can begin in the next epoch. If an allocation fails, or a lane has not
-/// ended, the workers and the cluster are given up.
+/// what it did, from the node on at which it began; all that it put into its lane was taken and committed, each once, and what came of each was put into
+/// its mailbox. Each worker with a cluster of its own makes what that lacks of the journal again, so it can begin in the next epoch. If an allocation
+/// fails, or a lane has not ended, the workers and the cluster are given up.
 pub fn close_epoch<J: LaneNaming, R: Wait>(
     rt: &R,
     alloc: Global,
     shared: Shared<J>,
     seats: Vec<Seat<J>>,
     scheduled: Vec<Scheduled<J>>,
-    lanes: Option<LaneCommitter<J>>,
+    lanes: Option<FinishedLanes<J>>,
 ) -> Result<(Closed, Vec<IdleWorker>), NoMemory>
     requires { length seats.items + length scheduled.items + length (option_to_list lanes)
         ≡ J.seats }

@@ -8,13 +8,14 @@ mod follower;
 mod gate;
 mod idle;
 mod lane;
+mod mailbox;
 mod pause;
 mod scheduler;
 mod seeing;
 mod worker;
 
 pub use cap_lanes::{Committer, Ended, LanesClosed, PutFault, Putter, lanes};
-pub use committer::LaneCommitter;
+pub use committer::{FinishedLanes, LaneCommitter};
 pub use committing::commit_all;
 pub use coordinator::Coordinator;
 pub use follower::Follower;

@@ -23,6 +23,7 @@ use crate::committing::commit_lanes;
 use crate::coordinator::Coordinator;
 use crate::gate::{CommitOutcome, Gate};
 use crate::lane::{EndedLane, Lane, LaneNaming};
+use crate::mailbox::Answer;
 use crate::pause::Pause;
 use crate::seeing::Seeing;
 use crate::worker::{Offer, OfferEnd, Turn, TurnEnd, Worker};
@@ -77,12 +78,12 @@ impl Next {
         }
     }
 
-    /// Where what was put has this outcome.
-    fn after_answer(outcome: CommitOutcome) -> Next {
-        match outcome {
-            CommitOutcome::Made => Next::Propose,
-            CommitOutcome::Rejected => Next::GiveWay,
-            CommitOutcome::Unmade => Next::Retry,
+    /// Where what was put is answered so.
+    fn after_answer(answer: Option<Answer>) -> Next {
+        match answer.map(|it| it.outcome) {
+            Some(CommitOutcome::Made) => Next::Propose,
+            Some(CommitOutcome::Rejected) => Next::GiveWay,
+            Some(CommitOutcome::Unmade) | None => Next::Retry,
         }
     }
 }
@@ -416,7 +417,7 @@ fn after_offer<J: LaneNaming, R: Wait, G: Gate, S>(
         OfferEnd::Refused(_) | OfferEnd::NoMemory => Next::Retry,
         OfferEnd::Put => {
             if let Some(outcomes) = commit_lanes(rt, shared, *coordinator) {
-                coordinator.notify(rt, *gate, &outcomes);
+                coordinator.notify(*gate, &outcomes);
             }
             Next::after_answer(coordinator.await_answer(rt, worker))
         }
