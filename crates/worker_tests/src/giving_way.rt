@@ -12,7 +12,7 @@ use std::time::{Clock, Duration};
 const PAUSES: usize = 5;
 
 /// Whether the client takes back what it asks for, at each commit of the epoch. After the last it asks no more.
-const TAKES_BACK: [bool; 4] = [true, true, false, true];
+const TAKES_BACK: [bool; 5] = [false, true, true, false, true];
 
 /// So many containers of (1024, 1), anywhere.
 const fn wanted(count: u32) -> [WantedContainers<'static>; 1] {
@@ -215,12 +215,12 @@ fn least_pauses<H: Wait + Clock>(
     Some(least)
 }
 
-/// Two proposals are rejected, one is made, and one more is rejected; then there is nothing to propose. Any worker but worker 0 rests after each that is
-/// rejected, twice as long after the second, and after what was made as long as at first. Worker 0 rests once there is nothing to propose.
+/// One proposal is made, two are rejected, one is made, and one more is rejected; then there is nothing to propose. Any worker but worker 0 rests after each
+/// that is rejected, twice as long after the second, and after what was made as long as at first. Worker 0 rests once there is nothing to propose.
 #[test]
 fn all_but_the_first_worker_rest_after_a_rejection(rt: HostRuntime) {
-    let first = [(4, 1), (4, 2), (4, 4), (4, 8), (4, 10)];
-    let other = [(1, 1), (2, 2), (4, 1), (4, 2), (4, 4)];
+    let first = [(5, 1), (5, 2), (5, 4), (5, 8), (5, 10)];
+    let other = [(2, 1), (3, 2), (5, 1), (5, 2), (5, 4)];
     for &(number, copies, expected) in &[
         (0, false, first),
         (0, true, first),
@@ -229,8 +229,9 @@ fn all_but_the_first_worker_rest_after_a_rejection(rt: HostRuntime) {
         (7, false, other),
     ] {
         let least = least_pauses(&rt, rt.alloc(), number, copies);
-        assert!(rt;
-            least == Some(pauses_of(&expected)),
+        assert_eq!(rt;
+            least,
+            Some(pauses_of(&expected)),
             "worker {number}, by copies: {copies}"
         );
     }
