@@ -29,6 +29,10 @@ pub own_marked : (ns : List ℕ) → AreNumbers ns → 1 ≤ length ns → 1 ≤
 own_marked [] a h = absurd (omega (arith, h))
 own_marked (n ∷ ns) a h = a.rise.0
 
+-- the numbers of the queue are those at the position
+pub numbers_are : (rows : List Row) (p : List ℕ) (q : Queue) → item_at p rows ≡ Some q → q.waiting ≡ waiting_at p rows
+numbers_are rows p q is = sym (ap (λ o. option_map_or (λ (x : Queue). x.waiting) o []) is)
+
 less_from : (i j : ℕ) → i < j → nat_cmp i j ≡ Less
 less_from i j l = sym (nat_cmp_is i j Less l)
 

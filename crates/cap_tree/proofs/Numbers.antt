@@ -1,5 +1,5 @@
 -- Where a number stands among numbers in order, or would stand.
-use Rattle.cap_tree.proofs.Prelude.{◌≡◌, ℕ, zero, suc, ◌+◌, ◌-◌, ◌<◌, ◌≤◌, true, false, List, [], ◌∷◌, length, get_or, insert, Option, Some, None, refl, sym, ◌∙◌, ap, subst, arith, inl, inr, nat_lt, nat_tests, ◌==◌, cases_lt, slice_get, slice_get-get_or, slice_get_past, IsIn}
+use Rattle.cap_tree.proofs.Prelude.{◌≡◌, ℕ, zero, suc, ◌+◌, ◌-◌, ◌<◌, ◌≤◌, true, false, List, [], ◌∷◌, length, get_or, insert, Option, Some, None, refl, sym, ◌∙◌, ap, subst, arith, inl, inr, nat_eq, nat_lt, nat_tests, ◌==◌, cases_lt, slice_get, slice_get-get_or, slice_get_past, IsIn}
 use Rattle.std.specs.List.{remove}
 use Rattle.cap_base.specs.Members.{IsRising}
 use Rattle.cap_tree.specs.Numbers.{AreNumbers, IsNextNumber, IsPlaceOf, with_number, without_number}
@@ -64,6 +64,10 @@ module _ (n : ℕ) (ns : List ℕ) (a : AreNumbers ns) (place : ℕ) (p : IsPlac
       let other : get_or ns k 0 ≡ n → ⊥ = λ e. out (subst (λ m. IsIn m ns) e (in_list ns k (omega (arith, lt, w)))) in
       omega (arith, le, other)) (λ k le lt. let more = p.after k le lt in omega (arith, more))
 
+  -- what stands before its place is there
+  pub there_before : 1 ≤ place → nat_eq (get_or ns (place - 1) 0) n ≡ true → IsIn n ns
+  there_before some e = let w = p.within in subst (λ m. IsIn m ns) (grind (arith, nat_tests, e)) (in_list ns (place - 1) (omega (arith, some, w)))
+
   -- one that is there stands before its place
   module _ (there : IsIn n ns) where
     index : (k : ℕ) × (k < length ns) × (get_or ns k 0 ≡ n)
@@ -81,7 +85,7 @@ module _ (n : ℕ) (ns : List ℕ) (a : AreNumbers ns) (place : ℕ) (p : IsPlac
     pub last_within : place - 1 < length ns
     last_within = let b = before_place in let w = p.within in omega (arith, b, w)
 
-    last_is : get_or ns (place - 1) 0 ≡ n
+    pub last_is : get_or ns (place - 1) 0 ≡ n
     last_is =
         let b = before_place in
         let w = p.within in

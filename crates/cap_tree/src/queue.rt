@@ -1,5 +1,5 @@
 //! One queue of the tree (`Queue`): its settings, what is used and active in it and under it, a leaf's users by hash.
-ghost use Rattle.std.specs.Prelude.{◌≡◌, ◌<◌, ◌≤◌, ◌⊎◌, None, IfOk, OnOk, OnErr, bytes_eq, length, vec_capacity};
+ghost use Rattle.std.specs.Prelude.{◌≡◌, ◌<◌, ◌≤◌, ◌⊎◌, None, false, true, IfOk, OnOk, OnErr, bytes_eq, length, vec_capacity};
 ghost use Rattle.std.specs.FinMap.{from_entries};
 ghost use Rattle.std.specs.Option.{option_copied};
 ghost use Rattle.indexmap.specs.IndexMap.{get};
@@ -369,6 +369,20 @@ impl<const K: usize, A: Allocator> Queue<K, A> {
         let place = place_of(&self.waiting, number);
         self.waiting.remove(place - 1);
         self.waits -= 1;
+    }
+
+    /// Whether an application waits at it.
+    pub(crate) fn has_waiting(&self, number: u64) -> bool
+        requires { AreNumbers self.now.waiting }
+        ensures there { result ≡ true → IsIn number self.now.waiting }
+        ensures absent { result ≡ false → ¬ IsIn number self.now.waiting }
+    {
+        let waiting = self.waiting.as_slice();
+        let place = place_of(waiting, number);
+        if place == 0 {
+            return false;
+        }
+        waiting[place - 1] == number
     }
 
     /// The number that waits at it next after that one.

@@ -1,5 +1,5 @@
 //! The tree of queues, seen as the list of its rows (`QueueTree`): its reads, and its changes at a queue.
-ghost use Rattle.std.specs.Prelude.{◌≡◌, ◌<◌, ◌≤◌, ◌+◌, ◌==◌, length, ◌++◌, ◌∷◌, [], map, None, Some, true, IfErr, IfOk, IfSome, MatchOption, OnOk, OnErr, ◌⊎◌};
+ghost use Rattle.std.specs.Prelude.{◌≡◌, ◌<◌, ◌≤◌, ◌+◌, ◌==◌, length, ◌++◌, ◌∷◌, [], map, None, Some, false, true, IfErr, IfOk, IfSome, MatchOption, OnOk, OnErr, ◌⊎◌};
 ghost use Rattle.std.specs.List.{All};
 ghost use Rattle.cap_vector.specs.Vector.{IsWithin, amounts_exchanged, sum_max};
 ghost use Rattle.cap_base.specs.Limits.{factor_max, number_end, queues_max};
@@ -381,6 +381,15 @@ impl<const K: usize, A: Allocator + Copy> QueueTree<K, A> {
         let Ok(()) = self.root.change(path.as_slice(), &change) else {
             unreachable!()
         };
+    }
+
+    /// Whether an application waits at the queue.
+    pub fn has_waiting(&self, path: &Path<A>, number: u64) -> bool
+        requires { IsPosition self.now path.now.items }
+        ensures there { result ≡ true → IsIn number (waiting_at path.now.items self.now) }
+        ensures absent { result ≡ false → ¬ IsIn number (waiting_at path.now.items self.now) }
+    {
+        self.root.get(path.as_slice()).has_waiting(number)
     }
 
     /// The application that is served first of those that wait: at the first level below `root` where two queues differ, that under the

@@ -1,5 +1,5 @@
-use Rattle.cap_tree.proofs.Prelude.{[], ℕ, List, IsIn, Row, AreRows, MatchOption, queue_cmp, ap, ◌≡◌, subst, sym, Option, Some, None, option_map_or, Queue, item_at}
-use Rattle.cap_tree.proofs.NextWaiters.{has_mark, here_is, marked, next_is, none_next, numbers_at, once, there_at}
+use Rattle.cap_tree.proofs.Prelude.{[], ℕ, List, IsIn, Row, AreRows, MatchOption, queue_cmp, subst, Option, Some, None, option_map_or, Queue}
+use Rattle.cap_tree.proofs.NextWaiters.{has_mark, here_is, marked, next_is, none_next, numbers_are, numbers_at, once, there_at}
 use Rattle.cap_tree.proofs.Sizes.{queue_fits}
 use Rattle.cap_tree.specs.Counted.{AreWaiting}
 use Rattle.cap_tree.specs.Numbers.{AreNumbers, IsNextNumber, first_number}
@@ -58,10 +58,6 @@ next_waiting-requires-room-T-Marked g c κs within = search queue_fits
 
 pub next_waiting-requires-room-T-Served : goal.next_waiting-requires-room-T-Served
 next_waiting-requires-room-T-Served g c κs within = search queue_fits
-
--- the numbers of the queue are those at the position
-numbers_are : (rows : List Row) (p : List ℕ) (q : Queue) → item_at p rows ≡ Some q → q.waiting ≡ waiting_at p rows
-numbers_are rows p q is = sym (ap (λ o. option_map_or (λ (x : Queue). x.waiting) o []) is)
 
 pub returns-in-Some : goal.returns-in-Some
 returns-in-Some g c =
