@@ -10,7 +10,7 @@ use Rattle.std.proofs.Common.{append-nil}
 use Rattle.std.proofs.lemmas.List.Elements.{filter-append}
 use Rattle.cap_asks.specs.Apps.{with_entry, without_entry}
 use Rattle.std.specs.Box.{with_value as with_boxed}
-use Rattle.cap_asks.proofs.Impossible.{among_front, among_without}
+use Rattle.cap_asks.proofs.Impossible.{among_front, among_without, own_wants}
 use Rattle.cap_asks.specs.Apps.{impossible_in}
 use Rattle.cap_asks.specs.Impossible.{AreAmong}
 use Rattle.cap_asks.proofs.Entries.{apps_of, accounts_of, account_there, is_number, by_number, none_changed, one_changed, one_uses, still_numbered, still_without, numbered_front, numbered_push, table_without, account_left}
@@ -447,6 +447,7 @@ pub record IsWaiter {A : Type 0} (apps : Slab (Box HeldApp A)) (index : List (�
   pub there : ContainsKey apps slot
   pub app : (b : Box HeldApp A) (x : HeldApp) → get apps slot ≡ Some b → x ≡ b.value → slice_get (waiting_of (apps_of (entries_at (held_at apps) index))) i ≡ Some x.app
   pub account : (b : Box HeldApp A) (x : HeldApp) → get apps slot ≡ Some b → x ≡ b.value → account_of x.app.number (accounts_of (entries_at (held_at apps) index)) ≡ Some x.account
+  pub impossible : (b : Box HeldApp A) (x : HeldApp) → get apps slot ≡ Some b → x ≡ b.value → AreAmong x.impossible (impossible_in (entries_at (held_at apps) index))
 
 pub waiter_at : {A : Type 0} (apps : Slab (Box HeldApp A)) (index : List (ℕ × ℕ)) {next : ℕ} {ws : List (ℕ × ℕ)} {room : ℕ} → AreIndexed (held_at apps) index next ws room → (i : ℕ) (e : ℕ × ℕ) → i < length ws → e ≡ get_or ws i e → IsWaiter apps index i e.1
 waiter_at {A} apps index {next} {ws} {room} h i e l is =
@@ -454,10 +455,12 @@ waiter_at {A} apps index {next} {ws} {room} h i e l is =
     let at = slice_get_read ws (length ws) i e refl l is in
     let entry = entry_is held 1 next index e h.numbered (of_filter (waits_in held) index e (subst (IsIn e) h.waiting (in_at ws i e at))).1 in
     let found : Some e.1 ≡ lookup (is_at (nat_cmp e.0)) index = sym (ap (λ t. lookup t index) (is_number e.0) ∙ entry.leads) in
-    let own = account_there e.0 (entries_at held index) (held e.1) (by_number e.0 (entries_at held index) (looked_at held e.0 index found)) in
+    let here = by_number e.0 (entries_at held index) (looked_at held e.0 index found) in
+    let own = account_there e.0 (entries_at held index) (held e.1) here in
     let same : (b : Box HeldApp A) (x : HeldApp) → get apps e.1 ≡ Some b → x ≡ b.value → x ≡ held e.1 = λ b x there v. v ∙ sym (ap (λ o. option_map_or (λ (c : Box HeldApp A). c.value) o nobody) there) in
     record {
       there = slot_taken apps index e.0 next h.numbered found;
       app = λ b x there v. ap (λ xs. slice_get xs i) (sym (waiters_are h)) ∙ slice_get-map (λ (e : ℕ × ℕ). (held e.1).app) ws i ∙ ap (option_map (λ (e : ℕ × ℕ). (held e.1).app)) at ∙ ap (λ (y : HeldApp). Some y.app) (sym (same b x there v));
       account = λ b x there v. subst (λ (y : HeldApp). account_of y.app.number (accounts_of (entries_at held index)) ≡ Some y.account) (sym (same b x there v)) (subst (λ k. account_of k (accounts_of (entries_at held index)) ≡ Some (held e.1).account) (sym entry.number) own);
+      impossible = λ b x there v. subst (λ (y : HeldApp). AreAmong y.impossible (impossible_in (entries_at held index))) (sym (same b x there v)) (own_wants e.0 (entries_at held index) (held e.1) here);
     }

@@ -218,7 +218,8 @@ impl<const K: usize> App<K> {
     pub(crate) fn node_came(&mut self, host: &ShortText, rack: &ShortText, total: &Resource<K>)
         ensures app { self.new.app ≡ self.old.app }
         ensures account { self.new.account ≡ self.old.account }
-        ensures impossible { AreLeftBy host.now rack.now total.now self.new.impossible self.old.impossible }
+        ensures impossible { AreLeftBy host.now rack.now total.now
+            self.new.impossible self.old.impossible }
     {
         self.asks.node_came(host, rack, total);
     }

@@ -172,12 +172,20 @@ impl<const K: usize> Apps<K> {
         Ok(waiting)
     }
 
+    /// How many wait for containers.
+    pub fn waiting_count(&self) -> usize
+        ensures { result ≡ length (waiting_of self.now.table.active) }
+    {
+        self.waiting.len()
+    }
+
     /// The application at an index among those that wait, in order of number, by its slot.
-    fn nth_waiting(&self, index: usize) -> &App<K>
+    pub fn nth_waiting(&self, index: usize) -> &App<K>
         requires { index < length (waiting_of self.now.table.active) }
         ensures app { slice_get (waiting_of self.now.table.active) index ≡ Some result.now.app }
         ensures account { account_of result.now.app.number self.now.accounts
             ≡ Some result.now.account }
+        ensures impossible { AreAmong result.now.impossible self.now.impossible }
     {
         &self.apps[self.waiting[index].1]
     }
@@ -311,7 +319,8 @@ impl<const K: usize> Apps<K> {
     pub fn node_came(&mut self, host: &ShortText, rack: &ShortText, total: &Resource<K>)
         ensures table { self.new.table ≡ self.old.table }
         ensures accounts { self.new.accounts ≡ self.old.accounts }
-        ensures impossible { AreLeftBy host.now rack.now total.now self.new.impossible self.old.impossible }
+        ensures impossible { AreLeftBy host.now rack.now total.now
+            self.new.impossible self.old.impossible }
     {
         if !self.has_impossible {
             return;

@@ -194,12 +194,17 @@ impl<const K: usize> Asks<K> {
         self.impossible.count() != 0
     }
 
-    /// A node of this host, rack and total in MiB, vcores and GPUs has come: each ask that it could take may be possible from now on.
+    /// A node of this host, rack and total in MiB, vcores and GPUs has come: each ask that it could take may be possible from now on. It
+    /// looks at them only where one is impossible.
     pub(crate) fn node_came(&mut self, host: &ShortText, rack: &ShortText, total: &Resource<K>)
         ensures asks { self.new.asks ≡ self.old.asks }
         ensures room { self.new.room ≡ self.old.room }
-        ensures impossible { AreLeftBy host.now rack.now total.now self.new.impossible self.old.impossible }
+        ensures impossible { AreLeftBy host.now rack.now total.now
+            self.new.impossible self.old.impossible }
     {
+        if self.impossible.count() == 0 {
+            return;
+        }
         for index in 0..self.items.len() {
             let items = self.items.as_slice();
             let ask = &items[index];

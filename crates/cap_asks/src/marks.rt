@@ -1,5 +1,5 @@
 //! Which of an application's asks are marked as impossible (`Marks`).
-ghost use Rattle.std.specs.Prelude.{◌≡◌, ◌+◌, ◌<◌, ◌≤◌, ◌⊎◌, [], true, length, insert, remove, slice_set, slice_index_or, OnOk, IsOk};
+ghost use Rattle.std.specs.Prelude.{◌≡◌, ◌+◌, ◌<◌, ◌≤◌, [], length, insert, remove, slice_set, OnOk, IsOk};
 ghost use Rattle.cap_asks.specs.Impossible.{AreMarkedBetween, marks_in};
 
 use cap_model::NoMemory;
@@ -52,13 +52,6 @@ impl Marks {
         }
     }
 
-    /// How many there are.
-    pub(crate) fn len(&self) -> usize
-        ensures { result ≡ length self.now.marks }
-    {
-        self.items.len()
-    }
-
     /// How many are set.
     pub(crate) fn count(&self) -> usize
         ensures { result ≡ marks_in self.now.marks }
@@ -106,14 +99,6 @@ impl Marks {
             (true, false) => self.count -= 1,
             _ => {}
         }
-    }
-
-    /// Whether the mark at an index is set.
-    pub(crate) fn is_set(&self, index: usize) -> bool
-        requires { index < length self.now.marks }
-        ensures { result ≡ slice_index_or self.now.marks index true }
-    {
-        self.items[index]
     }
 
     /// The index of the first from `from` on that is not set, their number where all are.

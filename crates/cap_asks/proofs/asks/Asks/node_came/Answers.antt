@@ -1,5 +1,5 @@
-use Rattle.cap_asks.proofs.Prelude.{◌≡◌, ap, sym, refl, ◌∙◌, arith, length, ◌+◌, ◌<◌, get_or, subst, slice_get_read}
-use Rattle.cap_asks.proofs.Impossible.{AreSeenTo, all_seen, one_fits, seen_gone, seen_kept}
+use Rattle.cap_asks.proofs.Prelude.{◌≡◌, ap, sym, refl, ◌∙◌, arith, length, ◌+◌, ◌<◌, get_or, subst, slice_get_read, nat_tests, IsIn}
+use Rattle.cap_asks.proofs.Impossible.{AreSeenTo, all_seen, none_marked, one_fits, seen_gone, seen_kept}
 use Rattle.cap_asks.proofs.asks.Asks.node_came.Goals as goal
 use Rattle.cap_asks.proofs.asks.Asks.node_came.Goals.{then-could_take, else-could_take}
 
@@ -49,3 +49,9 @@ returns-clause-impossible g c =
     let ok = c.self.inside.items.ok.0 in
     let i : c.loop-index.index ≡ length c.self.inside.items.items = omega (arith, test, end, ok) in
     rw (ap (λ v. v.items) before.items, ← c.self.view_is) (all_seen c.args.host.now c.args.rack.now c.args.total.now c.loop-index.self-inside.impossible.marks c.self.inside.impossible.marks c.self.inside.items.items (subst (AreSeenTo c.args.host.now c.args.rack.now c.args.total.now c.loop-index.self-inside.impossible.marks c.self.inside.impossible.marks c.self.inside.items.items) i before.seen))
+
+pub returns-then-count-eq0-clause-impossible : goal.returns-then-count-eq0-clause-impossible
+returns-then-count-eq0-clause-impossible g c want m =
+    let count = c.count.ensures in
+    let none = c.if-count-eq0.true in
+    absurd (subst (IsIn want) (none_marked c.self.inside.impossible.marks c.self.inside.items.items (grind (arith, nat_tests, count, none))) (rw (← c.self.view_is) at m))
