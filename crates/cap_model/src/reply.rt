@@ -63,6 +63,7 @@ impl<const K: usize, A: Copy> Clone for ReplyWith<K, A> {
 
 impl<const K: usize, A> ReplyWith<K, A> {
     /// The same reply, which isn't the answer to a processed allocate.
+    #[inline(always)]
     pub fn other<B>(&self) -> ReplyWith<K, B>
         requires { IfAllocate (λ _. ⊥) self.now }
         ensures { (f : A → B) → result ≡ map_reply f self.now }
