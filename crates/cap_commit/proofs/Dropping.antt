@@ -29,7 +29,7 @@ first_passes t (x ∷ xs) = by (t x) (first_passes t xs)
     by false h = h
 
 -- an item at an index is a member
-read_in : {A : Type 0} (xs : List A) (n : ℕ) (x : A) → slice_get xs n ≡ Some x → IsIn x xs
+pub read_in : {A : Type 0} (xs : List A) (n : ℕ) (x : A) → slice_get xs n ≡ Some x → IsIn x xs
 read_in [] n x e = absurd (cc e)
 read_in (y ∷ ys) zero x e = inl (cc e)
 read_in (y ∷ ys) (suc n) x e = inr (read_in ys n x e)

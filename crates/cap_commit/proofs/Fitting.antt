@@ -1,9 +1,10 @@
 -- The parts of a cluster are no larger than memory, as the cluster is.
-use Rattle.cap_commit.proofs.Prelude.{ℕ, ◌*◌, ◌<◌, [], ◌∷◌, arith, RattleType, FitsInMemory, part_fits}
+use Rattle.cap_commit.proofs.Prelude.{ℕ, ◌*◌, ◌<◌, ◌≤◌, resources_max, [], ◌∷◌, arith, RattleType, FitsInMemory, part_fits}
 use denote.Param.{layout, number, param}
 use Rattle.cap_vector.specs.contracts.vector.Amounts as amounts
 use Rattle.cap_model.specs.contracts.ask.Ask as ask
 use Rattle.cap_model.specs.contracts.container.Container as container
+use Rattle.cap_model.specs.contracts.event.Event as event
 use Rattle.cap_model.specs.contracts.container.Reservation as reservation
 use Rattle.cap_model.specs.contracts.news.Grant as grant
 use Rattle.cap_asks.specs.contracts.app.App as app
@@ -54,6 +55,10 @@ apps_fit K = omega arith
 
 pub app_fits : (K : RattleType) → FitsInMemory (app.the_row K)
 app_fits K = omega arith
+
+-- an event is as small as the kinds of resource are few
+pub event_fits : (n : ℕ) → n ≤ resources_max → FitsInMemory (event.the_row (param 0 (number n)))
+event_fits n few = let most : n ≤ 1000 = few in omega (arith, most)
 
 -- all of these: what a cluster holds fits in memory
 pub ruleset in_cluster = (nodes_in_cluster, container_in_cluster, load_in_cluster, node_in_cluster, amounts_in_cluster, reservation_in_cluster, ask_in_cluster, grant_in_cluster, limits_in_cluster, apps_fit, app_fits)

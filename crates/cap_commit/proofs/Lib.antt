@@ -11,6 +11,7 @@ pub mod Rooms
 pub mod Reach
 pub mod Waiting
 pub mod Followed
+pub mod Waking
 pub mod Ending
 pub mod EndRooms
 pub mod Unreserving

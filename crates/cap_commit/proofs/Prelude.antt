@@ -31,7 +31,7 @@ pub use Rattle.cap_base.specs.Settings.{QueueRow, Settings}
 pub use Rattle.cap_base.specs.Trees.{HasDistinctPaths}
 pub use Rattle.cap_base.specs.declared.no_memory.NoMemory.{NoMemory}
 pub use Rattle.cap_commit.specs.Admission.{limit_tests, load_sight, own_reservation, size_tests, taken_back}
-pub use Rattle.cap_commit.specs.ClusterState.{AreConsistent, AreOutOfReach, ClusterState, IsCluster, IsInLeaf, IsRowOf, IsWaitedAt, Parts, flat_of, numbers_of, of_cluster, waits_where}
+pub use Rattle.cap_commit.specs.ClusterState.{AreConsistent, AreOutOfReach, ClusterState, FollowsWaiting, IsCluster, IsInLeaf, IsRowOf, IsWaitedAt, Parts, flat_of, numbers_of, of_cluster, waits_where}
 pub use Rattle.cap_commit.specs.Owners.{containers_owned, owns}
 pub use Rattle.cap_commit.specs.declared.limits.Limits.{Limits}
 pub use Rattle.cap_laws.proofs.bounds.Formed.{unrefused_leaf}

@@ -1,8 +1,8 @@
 -- The row of a queue, by its path and by its position.
 use Rattle.cap_commit.proofs.Prelude.{◌≡◌, ℕ, ◌≤◌, Bool, true, false, cond, List, [], ◌∷◌, Some, map, refl, sym, ◌∙◌, ap, subst, inl, inr, arith, bytes_eq, find, is_some, ◌||◌, list_any, bytes_eq-Decides, count_by-le-length, QueueRow, applications_max, App, is_under, HasDistinctPaths, IsIn, each_of, in_map, bytes_itself, HoldsOfItem, IsPosition, item_at, path_at, Row, AreRows, IsAt, queues_of, settings_of_row, active_in, at_position, Parts, AreConsistent, IsRowOf, flat_of}
 
--- of paths that are all others, each is found
-or_no : (a b : Bool) → a || b ≡ false → (a ≡ false) × (b ≡ false)
+-- neither holds where one or the other does not
+pub or_no : (a b : Bool) → a || b ≡ false → (a ≡ false) × (b ≡ false)
 or_no true b h = absurd (cc h)
 or_no false b h = (refl, h)
 
@@ -11,6 +11,7 @@ not_among [] path q h m = absurd m
 not_among (x ∷ qs) path q h (inl e) = subst (λ y. bytes_eq y.path path ≡ false) e (or_no (bytes_eq x.path path) (list_any (λ (r : QueueRow). bytes_eq r.path path) qs) h).0
 not_among (x ∷ qs) path q h (inr m) = not_among qs path q (or_no (bytes_eq x.path path) (list_any (λ (r : QueueRow). bytes_eq r.path path) qs) h).1 m
 
+-- of paths that are all others, each is found
 pub found_by_path : (qs : List QueueRow) → HasDistinctPaths qs → (q : QueueRow) → IsIn q qs → find (λ r. bytes_eq r.path q.path) qs ≡ Some q
 found_by_path [] d q m = absurd m
 found_by_path (x ∷ qs) d q (inl e) = subst (λ y. find (λ (r : QueueRow). bytes_eq r.path y.path) (x ∷ qs) ≡ Some y) e (ap (λ b. cond b (Some x) (find (λ (r : QueueRow). bytes_eq r.path x.path) qs)) (bytes_itself x.path))

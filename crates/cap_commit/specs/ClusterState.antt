@@ -1,5 +1,5 @@
 -- What a cluster keeps: its parts, the flat cluster that they are, and what they have to do with each other.
-use Rattle.std.specs.Prelude.{◌≡◌, ℕ, ◌≤◌, ◌&&◌, ◌==◌, IsSome, Bool, false, List, filter, length, map, count_by, bytes_eq}
+use Rattle.std.specs.Prelude.{◌≡◌, ℕ, ◌≤◌, ◌&&◌, ◌==◌, IsSome, Bool, true, false, List, filter, length, map, count_by, bytes_eq}
 use Rattle.std.specs.List.{All}
 use Rattle.cap_laws.specs.Reservations.{AreReserved}
 use Rattle.cap_vector.specs.Vector.{amount}
@@ -15,7 +15,7 @@ use Rattle.cap_tree.specs.Queue.{of_user}
 use Rattle.cap_tree.specs.Rows.{Row, IsAt, queues_of}
 use Rattle.cap_asks.specs.Accounts.{Account}
 use Rattle.cap_asks.specs.Apps.{HeldApps, is_waiting, live_of, position_of}
-use Rattle.cap_asks.specs.Impossible.{Want}
+use Rattle.cap_asks.specs.Impossible.{Want, want_of}
 use Rattle.cap_nodes.specs.Tables.{could_take}
 use Rattle.cap_commit.specs.declared.limits.Limits.{Limits}
 
@@ -36,18 +36,34 @@ pub record Parts (K : ℕ) : Type 0 where
 abbrev pub numbers_of : (App → Bool) → List App → List ℕ
 numbers_of test apps = map (λ app. app.number) (filter test apps)
 
--- whether an application waits, in a leaf that passes a test
-abbrev pub waits_where : (List ℕ → Bool) → App → Bool
-waits_where leaf app = leaf app.leaf && is_waiting app
+-- whether an application is one of those that are followed, in a leaf that passes a test
+abbrev pub waits_where : (ℕ → Bool) → (List ℕ → Bool) → App → Bool
+waits_where followed leaf app = leaf app.leaf && followed app.number
 
--- a queue of the tree has the numbers of its own applications that wait, in order, and counts those that wait in it and under it
-pub record IsWaitedAt (apps : List App) (r : Row) : Type 0 where
-  pub numbers : r.item.waiting ≡ numbers_of (waits_where (bytes_eq r.path)) apps
-  pub count : r.item.waits ≡ count_by (waits_where (is_under r.path)) apps
+-- a queue of the tree has the numbers of its own applications that are followed, in order, and counts those that are in it and under it
+pub record IsWaitedAt (followed : ℕ → Bool) (apps : List App) (r : Row) : Type 0 where
+  pub numbers : r.item.waiting ≡ numbers_of (waits_where followed (bytes_eq r.path)) apps
+  pub count : r.item.waits ≡ count_by (waits_where followed (is_under r.path)) apps
 
 -- each of these wants is out of reach: none of these nodes could take it, not even one that is empty
 abbrev pub AreOutOfReach : List ClusterNode → List Want → Type 0
 AreOutOfReach nodes wants = (want : Want) → IsIn want wants → All (λ node. could_take want.place want.resource node ≡ false) nodes
+
+-- what an application's asks want
+abbrev pub wants_of : App → List Want
+wants_of app = map want_of app.asks
+
+-- an application that is followed waits; what one wants that waits and is not followed is out of reach
+pub record IsKnown (nodes : List ClusterNode) (followed : ℕ → Bool) (app : App) : Type 0 where
+  pub waits : followed app.number ≡ true → is_waiting app ≡ true
+  pub reach : followed app.number ≡ false → is_waiting app ≡ true → AreOutOfReach nodes (wants_of app)
+
+-- the tree follows applications that wait: all whose asks are not out of reach, and all where none is asleep
+pub record FollowsWaiting (asleep : Bool) (nodes : List ClusterNode) (apps : List App) (rows : List Row) : Type 0 where
+  pub followed : ℕ → Bool
+  pub waiting : All (IsWaitedAt followed apps) rows
+  pub known : All (IsKnown nodes followed) apps
+  pub all : asleep ≡ false → All (λ app. is_waiting app ≡ true → followed app.number ≡ true) apps
 
 module _ {K : ℕ} where
   -- the flat cluster of these parts
@@ -104,8 +120,8 @@ module _ {K : ℕ} where
     pub few_live : length p.nodes.live ≤ live_max
     pub resources : K ≤ resources_max
 
-  -- and the tree knows which applications wait, and an ask is known as impossible only where no present node could take it
-  pub record IsCluster (p : Parts K) : Type 0 where
+  -- and the tree follows the applications that wait, and an ask is known as impossible only where no present node could take it
+  pub record IsCluster (asleep : Bool) (p : Parts K) : Type 0 where
     pub consistent : AreConsistent p
-    pub waiting : All (IsWaitedAt p.apps.table.active) p.rows
+    pub waiting : FollowsWaiting asleep p.nodes.present p.apps.table.active p.rows
     pub impossible : AreOutOfReach p.nodes.present p.apps.impossible

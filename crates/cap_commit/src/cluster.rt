@@ -21,11 +21,11 @@ ghost use Rattle.cap_model.specs.Heartbeat.{after_beat};
 ghost use Rattle.cap_tree.specs.Rows.{IsAt, queues_of};
 ghost use Rattle.cap_tree.specs.Spot.{IsPosition, path_at};
 ghost use Rattle.cap_asks.specs.Apps.{KeepsNumbers, ask_room, HasRooms, UsesRoom, position_of};
-ghost use Rattle.cap_commit.specs.ClusterState.{AreOutOfReach, IsRowOf, IsWaitedAt};
+ghost use Rattle.cap_commit.specs.ClusterState.{AreOutOfReach, FollowsWaiting, IsRowOf};
 ghost use Rattle.cap_laws.specs.Reservations.{kept_by_ask};
 ghost use Rattle.cap_commit.specs.Owners.{TakesEndRoom, TakesLeaver, owns, containers_owned, containers_named};
 
-use crate::following::{follow, follow_app, waits};
+use crate::following::{follow_app, settle, wake};
 use crate::limits::{Limits, limits_of};
 use crate::owner::Owner;
 use crate::queue_report::report_of;
@@ -46,6 +46,8 @@ pub struct Cluster<const K: usize> {
     limits: Limits<K>,
     pub(crate) apps: Apps<K>,
     pub(crate) nodes: Nodes<K>,
+    // Whether an application that waits may be left out of the tree, since no present node could take any of its asks.
+    pub(crate) asleep: bool,
 }
 
 impl<const K: usize> Drop for Cluster<K> {
@@ -55,6 +57,7 @@ impl<const K: usize> Drop for Cluster<K> {
             limits: _,
             apps: _,
             nodes: _,
+            asleep: _,
         } = self;
     }
 }
@@ -75,7 +78,7 @@ impl<const K: usize> Model for Cluster<K> {
       nodes = c.nodes;
     }) };
 
-    ghost invariant = { λ c. IsCluster {K = K} (record {
+    ghost invariant = { λ c. IsCluster {K = K} c.asleep (record {
       rows = c.tree.value;
       limits = c.limits;
       apps = c.apps;
@@ -101,16 +104,18 @@ impl<const K: usize> Cluster<K> {
             limits,
             apps: Apps::new(alloc),
             nodes: Nodes::new(alloc),
+            asleep: false,
         })
     }
 
-    /// Its queues. Each shows what the cluster uses in it and under it and how many applications wait there, and a leaf which of its own wait and
-    /// what its users use.
+    /// Its queues. Each shows what the cluster uses in it and under it and how many applications wait there, and a leaf which of its own
+    /// wait and what its users use. An application that waits may be left out where no present node could take any of its asks.
     pub fn tree(&self) -> &QueueTree<K, Global>
         ensures rows { result.now ≡ self.now.rows }
         ensures queues { queues_of self.now.rows ≡ self.now.flat.settings.queues }
         ensures tied { All (IsRowOf self.now.flat) self.now.rows }
-        ensures waiting { All (IsWaitedAt self.now.flat.apps.active) self.now.rows }
+        ensures waiting { FollowsWaiting true self.now.flat.nodes.present
+            self.now.flat.apps.active self.now.rows }
         ensures resources { K ≤ resources_max }
     {
         &*self.tree
@@ -237,10 +242,10 @@ impl<const K: usize> Cluster<K> {
         ensures room { UsesRoom number 0 0 0 self.old.accounts self.new.accounts }
     {
         self.apps.numbers_rise();
-        let waited = waits(&self.apps, number);
         self.apps.register(number);
         let tree = &mut *self.tree;
-        follow_app(tree, &self.apps, number, waited);
+        let is_left = follow_app(tree, &self.apps, number);
+        self.asleep = self.asleep | is_left;
     }
 
     /// Makes room for so many more asks, grants and ends of an active application, so that it takes them with no memory. `NoMemory`
@@ -279,11 +284,11 @@ impl<const K: usize> Cluster<K> {
         let ask = ask.with_resource(&resource);
         self.drop_unwanted(number, &ask);
         self.apps.numbers_rise();
-        let waited = waits(&self.apps, number);
         let impossible = !self.nodes.may_take(&ask.place(), &ask.resource());
         self.apps.put_ask(number, &ask, impossible);
         let tree = &mut *self.tree;
-        follow_app(tree, &self.apps, number, waited);
+        let is_left = follow_app(tree, &self.apps, number);
+        self.asleep = self.asleep | is_left;
     }
 
     /// Drops the reservations of its key that an ask of an application, already rounded, does not leave.
@@ -330,7 +335,7 @@ impl<const K: usize> Cluster<K> {
             unreachable!()
         };
         let tree = &mut *self.tree;
-        follow(tree, app.position(), number, app.is_waiting(), false);
+        settle(tree, app.position(), number, false);
         tree.leave(app.position(), app.user());
         self.apps.finish(number);
         ended
@@ -408,7 +413,8 @@ impl<const K: usize> Cluster<K> {
         self.apps.add_end(container.app(), &end);
     }
 
-    /// Takes a node in under the next number, of a total in MiB, vcores and GPUs. `NoMemory` changes nothing.
+    /// Takes a node in under the next number, of a total in MiB, vcores and GPUs. Applications wait again of whose asks it could take one.
+    /// `NoMemory` changes nothing.
     pub fn add_node(
         &mut self,
         host: &ShortText,
@@ -419,12 +425,15 @@ impl<const K: usize> Cluster<K> {
         ensures number { IfOk result (λ number. number ≡ self.old.flat.nodes.next_node) }
         ensures ok { OnOk result
             (self.new.flat ≡ after_register_node self.old.flat host.now rack.now total.now) }
-        ensures err { OnErr result (self.new.flat ≡ self.old.flat) }
-        ensures rows { self.new.rows ≡ self.old.rows }
+        ensures err { OnErr result (self.new ≡ self.old) }
         ensures accounts { self.new.accounts ≡ self.old.accounts }
     {
         let number = self.nodes.register(host, rack, total)?;
         self.apps.node_came(host, rack, total);
+        if self.asleep {
+            let tree = &mut *self.tree;
+            self.asleep = wake(tree, &self.apps);
+        }
         Ok(number)
     }
 

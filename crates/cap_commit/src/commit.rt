@@ -63,13 +63,13 @@ impl<const K: usize> Cluster<K> {
             unreachable!()
         };
         let tree = &mut *self.tree;
-        let waited = owner.is_waiting();
         tree.apply(owner.position(), owner.user(), &old, &resource);
         self.apps.numbers_rise();
         self.apps.take_one(app, &key);
         self.apps.add_grant(app, &grant);
         let tree = &mut *self.tree;
-        follow_app(tree, &self.apps, app, waited);
+        let is_left = follow_app(tree, &self.apps, app);
+        self.asleep = self.asleep | is_left;
         Ok(Container {
             number,
             app,
@@ -138,6 +138,7 @@ impl<const K: usize> Cluster<K> {
         ensures admissible { OnErr result (IsAdmissible (sight_of self.old.flat) proposal.entry) }
         ensures err { OnErr result (self.new.flat ≡ self.old.flat) }
     {
+        self.nodes();
         let old = match self.admit(&proposal) {
             Ok(old) => old,
             Err(reason) => return Ok(Verdict::Rejected(reason)),

@@ -1,8 +1,12 @@
-use Rattle.std.proofs.Common.{arith, rules}
+use Rattle.std.proofs.Common.{arith}
 use Rattle.cap_copy.proofs.Fitting.{nodes_of_few}
 use Rattle.cap_commit.proofs.Sizes.{tree_fits}
+use Rattle.cap_sights.proofs.Fitting.{cluster_of_few}
 use Rattle.cap_sights.proofs.Sighting.{copy_shows}
 use Rattle.cap_sights.proofs.copy_under.Goals as goal
+
+pub nodes-nodes-requires : goal.nodes-nodes-requires
+nodes-nodes-requires g c = let few = c.requires.few in (cluster_of_few _ few, nodes_of_few _ few)
 
 pub tree-requires : goal.tree-requires
 tree-requires g c = (search, tree_fits _ c.requires.few)

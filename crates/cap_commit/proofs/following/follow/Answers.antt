@@ -1,14 +1,35 @@
-use Rattle.cap_commit.proofs.Prelude.{◌≡◌, ℕ, Bool, true, false, List, map, map-id, sym, Row}
-use Rattle.std.specs.Bool.{beq}
-use Rattle.cap_commit.specs.Waiting.{followed_row}
+use Rattle.cap_commit.proofs.Prelude.{◌≡◌, ℕ, Bool, true, false, not, List, refl, sym, Row, App, Want, IsIn}
+use Rattle.cap_model.specs.Asks.{Ask}
+use Rattle.cap_asks.specs.Apps.{is_waiting}
+use Rattle.cap_asks.specs.Impossible.{want_of}
+use Rattle.cap_commit.specs.Waiting.{IsFollowedAs, IsSettled}
 use Rattle.cap_commit.proofs.following.follow.Goals as goal
 
--- where it waits as before, nothing changes
-nothing_follows : (n : ℕ) (path : List ℕ) (waited waits : Bool) (rows : List Row) → beq waits waited ≡ true → rows ≡ map (followed_row n path waited waits) rows
-nothing_follows n path true true rows e = sym (map-id rows)
-nothing_follows n path false false rows e = sym (map-id rows)
-nothing_follows n path true false rows e = absurd (cc e)
-nothing_follows n path false true rows e = absurd (cc e)
+on_and_off : (b : Bool) → b ≡ true → b ≡ false → ⊥
+on_and_off b on off = cc (on, off)
 
-pub returns-then-waits-waited : goal.returns-then-waits-waited
-returns-then-waits-waited g c = nothing_follows c.args.number _ c.args.waited c.args.waits c.args.tree.now c.if-waits-waited.true
+-- one that waits is followed, but where all its asks are among those wants
+waits_as : (app : App) (position : List ℕ) (wants : List Want) (left : Bool) (old new : List Row) → is_waiting app ≡ true → (left ≡ true → (ask : Ask) → IsIn ask app.asks → IsIn (want_of ask) wants) → IsSettled app.number position (not left) old new →
+    IsFollowedAs app position wants left old new
+waits_as app position wants true old new on all s = record { waits = false; settled = s; some = λ never. absurd (cc never); none = λ off on. all refl; all = λ never. absurd (cc never) }
+waits_as app position wants false old new on all s = record { waits = true; settled = s; some = λ is. on; none = λ never. absurd (cc never); all = λ off on. refl }
+
+-- one that does not wait is not followed
+waits_not : (app : App) (position : List ℕ) (wants : List Want) (old new : List Row) → is_waiting app ≡ false → IsSettled app.number position false old new → IsFollowedAs app position wants false old new
+waits_not app position wants old new off s = record {
+  waits = false;
+  settled = s;
+  some = λ never. absurd (cc never);
+  none = λ out on. absurd (on_and_off (is_waiting app) on off);
+  all = λ out on. absurd (on_and_off (is_waiting app) on off);
+}
+
+pub returns-then-not-is_waiting : goal.returns-then-not-is_waiting
+returns-then-not-is_waiting g c =
+    waits_not c.args.app.now.app c.args.app.now.account.position c.args.app.now.impossible c.args.tree.now c.settle.new.tree (sym c.if-not-is_waiting.ensures)
+    (rw (c.position.ensures, c.number.ensures) at c.settle.ensures)
+
+pub returns : goal.returns
+returns g c =
+    waits_as c.args.app.now.app c.args.app.now.account.position c.args.app.now.impossible c.is_impossible-is_left.result c.args.tree.now c.settle-2.new.tree (sym c.if-not-is_waiting.ensures) c.is_impossible-is_left.ensures
+    (rw (c.position-2.ensures, c.number-2.ensures) at c.settle-2.ensures)

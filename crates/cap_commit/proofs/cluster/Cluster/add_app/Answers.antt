@@ -4,8 +4,8 @@ use Rattle.cap_commit.proofs.Holding.{held_entered, held_same, with_table}
 use Rattle.cap_commit.proofs.Moving.{moved_settings}
 use Rattle.cap_commit.proofs.RowsAt.{all_few}
 use Rattle.cap_commit.proofs.Sizes.{tree_fits}
-use Rattle.cap_commit.proofs.Followed.{waited_same_table}
-use Rattle.cap_commit.proofs.Waiting.{moved_keeps, waited_entered, waited_rows}
+use Rattle.cap_commit.proofs.Followed.{follows_entered, follows_rows, follows_same_table}
+use Rattle.cap_commit.proofs.Waiting.{moved_keeps}
 use Rattle.cap_commit.proofs.Reach.{no_more_wanted}
 use Rattle.cap_commit.proofs.cluster.Cluster.add_app.Goals as goal
 
@@ -30,7 +30,7 @@ enter-requires g c =
 pub invariant_of-self : goal.invariant_of-self
 invariant_of-self g c = record {
   consistent = held_same _ c.self.invariant.consistent c.submit.new.self c.in_err-number.ensures.table_stays c.in_err-number.ensures.accounts_stay;
-  waiting = waited_same_table c.self.inside.apps.table c.submit.new.self.table _ c.in_err-number.ensures.table_stays c.self.invariant.waiting;
+  waiting = follows_same_table c.self.inside.apps.table c.submit.new.self.table _ c.in_err-number.ensures.table_stays c.self.invariant.waiting;
   impossible = no_more_wanted c.self.inside.nodes.present c.self.inside.apps.impossible c.submit.new.self.impossible c.submit.ensures.impossible c.self.invariant.impossible;
 }
 
@@ -42,7 +42,7 @@ invariant_of-self-in_default-enter g c =
       consistent =
           held_same _ c.self.invariant.consistent c.take_back.new.self (c.take_back.ensures.table c.args.path.now c.args.user.now old.table c.in_ok-number.ensures.table)
           (c.take_back.ensures.accounts old.table.next (new_account c.args.position.items) old.accounts c.in_ok-number.ensures.accounts.last);
-      waiting = waited_same_table old.table c.take_back.new.self.table _ (c.take_back.ensures.table c.args.path.now c.args.user.now old.table c.in_ok-number.ensures.table) c.self.invariant.waiting;
+      waiting = follows_same_table old.table c.take_back.new.self.table _ (c.take_back.ensures.table c.args.path.now c.args.user.now old.table c.in_ok-number.ensures.table) c.self.invariant.waiting;
       impossible =
           no_more_wanted c.self.inside.nodes.present c.submit.new.self.impossible c.take_back.new.self.impossible c.take_back.ensures.impossible
           (no_more_wanted c.self.inside.nodes.present old.impossible c.submit.new.self.impossible c.submit.ensures.impossible c.self.invariant.impossible);
@@ -56,9 +56,9 @@ invariant_of-self-in-Ok g c =
     (record {
       consistent = held_entered _ c.self.invariant.consistent c.args.path.now c.args.user.now c.args.position.items c.submit.new.self c.numbers_rise.ensures (rw (← c.self.view_is) at c.requires.free) at c.in_ok-number.ensures.table c.in_ok-number.ensures.accounts;
       waiting =
-          waited_same_table (add_app c.args.path.now c.args.user.now c.self.inside.apps.table) c.submit.new.self.table _ c.in_ok-number.ensures.table
-          (waited_rows _ (moved_keeps g.row.K c.args.path.now c.args.user.now (zero_count g.row.K) (one_app g.row.K)) _ c.self.inside.tree.value
-          (waited_entered c.self.inside.apps.table.active c.self.inside.tree.value c.self.inside.apps.table.next c.args.path.now c.args.user.now c.self.invariant.waiting));
+          follows_same_table (add_app c.args.path.now c.args.user.now c.self.inside.apps.table) c.submit.new.self.table _ c.in_ok-number.ensures.table
+          (follows_rows _ (moved_keeps g.row.K c.args.path.now c.args.user.now (zero_count g.row.K) (one_app g.row.K)) _ c.self.inside.tree.value
+          (follows_entered c.self.inside.apps.table.active c.self.inside.tree.value c.self.inside.apps.table.next c.args.path.now c.args.user.now c.numbers_rise.ensures c.self.invariant.waiting));
       impossible = no_more_wanted c.self.inside.nodes.present c.self.inside.apps.impossible c.submit.new.self.impossible c.submit.ensures.impossible c.self.invariant.impossible;
     })
 

@@ -1,4 +1,7 @@
-use Rattle.std.proofs.Common.{sym, arith}
+use Rattle.std.proofs.Common.{sym, ap, ◌∙◌, arith}
+use Rattle.std.specs.Prelude.{option_and_then}
+use Rattle.cap_model.specs.Flat.{ask_at}
+use Rattle.cap_model.specs.Sight.{AppSight}
 use Rattle.cap_commit.proofs.Fitting.{amounts_in_cluster, app_fits, ask_in_cluster, in_cluster, load_in_cluster, reservation_in_cluster}
 use Rattle.cap_commit.proofs.cluster.Cluster.admit.Goals as goal
 
@@ -33,3 +36,10 @@ limit_reason-requires g c =
 
 pub key-requires : goal.key-requires
 key-requires g c = search in_cluster
+
+pub suits-requires : goal.suits-requires
+suits-requires g c =
+    let q = c.args.proposal.now in
+    let here = rw c.app.ensures at c.in-Some.ensures in
+    let asked = rw c.key.ensures at c.in-Some-ask.ensures in
+    ((search), ((search), (search ask_in_cluster, (search load_in_cluster, (ap (option_and_then (λ (app : AppSight). ask_at q.key app.asks)) (sym here.seen) ∙ sym asked, sym c.in-Some-load.ensures.seen)))))

@@ -2,6 +2,7 @@ use Rattle.cap_commit.proofs.Fitting.{nodes_in_cluster}
 use Rattle.cap_commit.proofs.Prelude.{ap, sym, subst, ◌∙◌, IsSome, filter, ◌==◌, ◌≡◌, [], Flat, NodeTable, Reservation, containers_on, node_at, remove_node, ClusterState, Parts, flat_of, reserved_gone}
 use Rattle.cap_commit.proofs.Dropping.{none_stay}
 use Rattle.cap_commit.proofs.Holding.{held_nodes}
+use Rattle.cap_commit.proofs.Followed.{follows_nodes}
 use Rattle.cap_commit.proofs.Reach.{node_gone}
 use Rattle.cap_commit.proofs.cluster.Cluster.drop_node.Goals as goal
 
@@ -19,7 +20,7 @@ invariant_of-self g c =
       consistent =
           held_nodes _ c.self.invariant.consistent c.gone.new.self (ap (λ (t : NodeTable). t.live) c.gone.ensures) (ap (λ (t : NodeTable). t.reserved) c.gone.ensures) (ap (λ (t : NodeTable). t.next_container) c.gone.ensures)
           (reserved_gone c.args.number c.self.inside.nodes c.gone.new.self none c.gone.ensures c.self.invariant.consistent.reservations);
-      waiting = c.self.invariant.waiting;
+      waiting = follows_nodes c.self.inside.nodes.present c.gone.new.self.present c.self.inside.apps.table.active c.self.inside.tree.value (λ wants. node_gone c.args.number c.self.inside.nodes c.gone.new.self wants c.gone.ensures) c.self.invariant.waiting;
       impossible = node_gone c.args.number c.self.inside.nodes c.gone.new.self c.self.inside.apps.impossible c.gone.ensures c.self.invariant.impossible;
     }
 

@@ -4,8 +4,8 @@ use Rattle.cap_commit.proofs.Ending.{has_owner, some_live, may_give_back, held_e
 use Rattle.cap_commit.proofs.Holding.{placed_at, position_is}
 use Rattle.cap_commit.proofs.Moving.{moved_settings}
 use Rattle.cap_commit.proofs.Sizes.{tree_fits}
-use Rattle.cap_commit.proofs.Followed.{waited_table}
-use Rattle.cap_commit.proofs.Waiting.{moved_keeps, waited_rows}
+use Rattle.cap_commit.proofs.Followed.{follows_nodes, follows_rows, follows_table}
+use Rattle.cap_commit.proofs.Waiting.{moved_keeps}
 use Rattle.cap_commit.proofs.Reach.{no_more_wanted, nodes_same}
 use Rattle.cap_commit.proofs.cluster.Cluster.end.Goals as goal
 
@@ -51,8 +51,9 @@ invariant_of-self g c =
     (record {
       consistent = held_ended _ c.self.invariant.consistent one.number one (rw (← c.self.view_is) at c.requires) app owner (omega (arith, count)) c.add_end.new.self c.lift.new.self c.app-3.result _ c.lift.ensures c.app-3.ensures c.add_end.ensures.table c.add_end.ensures.accounts;
       waiting =
-          waited_table c.app-3.result _ (record { number = λ a. refl; leaf = λ a. refl; user = λ a. refl }) (λ a. refl) x.apps.table c.add_end.new.self.table _ c.add_end.ensures.table
-          (waited_rows _ (moved_keeps g.row.K app.leaf app.user (use_alone one.resource) (zero_count g.row.K)) x.apps.table.active x.tree.value c.self.invariant.waiting);
+          follows_nodes x.nodes.present c.lift.new.self.present c.add_end.new.self.table.active _ (λ wants. nodes_same x.nodes.present c.lift.new.self.present wants (ap (λ (t : NodeTable). t.present) c.lift.ensures))
+          (follows_table c.app-3.result _ (record { number = λ a. refl; leaf = λ a. refl; user = λ a. refl }) (λ a. refl) (λ a. refl) x.apps.table c.add_end.new.self.table _ c.add_end.ensures.table
+          (follows_rows _ (moved_keeps g.row.K app.leaf app.user (use_alone one.resource) (zero_count g.row.K)) x.apps.table.active x.tree.value c.self.invariant.waiting));
       impossible =
           nodes_same x.nodes.present c.lift.new.self.present c.add_end.new.self.impossible (ap (λ (t : NodeTable). t.present) c.lift.ensures)
           (no_more_wanted x.nodes.present x.apps.impossible c.add_end.new.self.impossible c.add_end.ensures.impossible c.self.invariant.impossible);

@@ -1,14 +1,13 @@
-use Rattle.cap_commit.proofs.Prelude.{ap, sym, ◌∙◌, map, arith, subst, IsSome, is_some, filter, ◌==◌, ◌≡◌, [], Released, Flat, Reservation, app_at, containers_of, remove_app, queues_of, left_row, path_at, ClusterState, Parts, zero_count, one_app, false, AreConsistent, flat_of, refl}
+use Rattle.cap_commit.proofs.Prelude.{ap, sym, ◌∙◌, map, arith, subst, IsSome, is_some, filter, ◌==◌, ◌≡◌, [], Released, Flat, Reservation, app_at, containers_of, remove_app, queues_of, left_row, path_at, ClusterState, Parts, zero_count, one_app, false, AreConsistent}
 use Rattle.cap_commit.proofs.Holding.{finished_is, held_left, may_go, placed_at, position_is, with_table}
 use Rattle.cap_commit.proofs.Dropping.{none_stay}
 use Rattle.cap_commit.proofs.Moving.{moved_settings}
 use Rattle.cap_commit.proofs.Owning.{still_active}
 use Rattle.cap_commit.proofs.Sizes.{tree_fits}
-use Rattle.cap_commit.proofs.Followed.{followed_path, followed_position, followed_settings, held_followed, waited_same_table}
-use Rattle.cap_commit.proofs.Waiting.{may_follow, moved_keeps, waited_left, waited_rows}
+use Rattle.cap_commit.proofs.Followed.{followed_path, followed_position, followed_settings, follows_left, follows_rows, follows_same_table, held_followed}
+use Rattle.cap_commit.proofs.Waiting.{moved_keeps}
 use Rattle.cap_commit.proofs.RowsAt.{still_at}
 use Rattle.cap_commit.specs.Waiting.{followed_row}
-use Rattle.cap_asks.specs.Apps.{is_waiting}
 use Rattle.cap_commit.specs.Owners.{TakesEndRoom}
 use Rattle.cap_commit.proofs.Reach.{no_more_wanted}
 use Rattle.cap_commit.proofs.cluster.Cluster.finish.Goals as goal
@@ -22,10 +21,9 @@ unreachable-requires g c =
     let none = ap is_some c.in_default.ensures.found in
     cc (some, none)
 
-pub follow-requires : goal.follow-requires
-follow-requires g c =
+pub settle-requires : goal.settle-requires
+settle-requires g c =
     let x = c.self.inside in
-    let p : Parts g.row.K = record { rows = x.tree.value; limits = x.limits; apps = x.apps; nodes = x.nodes } in
     let app = c.in-Some.app.now.app in
     let there = sym c.in-Some.ensures.found in
     let first = c.position.ensures ∙ position_is _ c.self.invariant.consistent c.args.number c.in-Some.app.now c.in-Some.ensures.found c.in-Some.ensures.account in
@@ -33,8 +31,7 @@ follow-requires g c =
       tree_fits _ c.self.invariant.consistent.resources,
       (
         c.self.invariant.consistent.resources,
-        rw (c.is_waiting.ensures, c.deref_mut-tree.ensures.value, first)
-            (may_follow x.apps.table.active x.apps.table.next c.args.number app c.numbers_rise.ensures there (flat_of p) x.tree.value c.self.invariant.consistent.tied (λ test. refl) c.self.invariant.waiting c.self.invariant.consistent.few _ placed.position false),
+        (rw (c.deref_mut-tree.ensures.value, first) placed.position.present, λ never. absurd (cc never)),
       ),
     )
 
@@ -52,9 +49,10 @@ leave-requires g c =
     let position = c.position-2.ensures ∙ position_is _ c.self.invariant.consistent c.args.number c.in-Some.app.now c.in-Some.ensures.found c.in-Some.ensures.account in
     let first = c.position.ensures ∙ position_is _ c.self.invariant.consistent c.args.number c.in-Some.app.now c.in-Some.ensures.found c.in-Some.ensures.account in
     let placed = placed_at _ c.self.invariant.consistent c.args.number app there in
-    let follow = (rw c.deref_mut-tree.ensures.value at c.follow.ensures) ∙ (λ i. map (followed_row c.args.number ((ap (λ q. path_at q x.tree.value) first ∙ placed.position.path_is) i) (c.is_waiting.ensures i) false) x.tree.value) in
-    let after : Parts g.row.K = record p { rows = map (followed_row c.args.number app.leaf (is_waiting app) false) x.tree.value } in
-    let held : AreConsistent after = held_followed p c.self.invariant.consistent c.args.number app.leaf (is_waiting app) false in (
+    let settled = rw (c.deref_mut-tree.ensures.value, first) at c.settle.ensures in
+    let follow = settled.rows ∙ ap (λ q. map (followed_row c.args.number q settled.waited false) x.tree.value) placed.position.path_is in
+    let after : Parts g.row.K = record p { rows = map (followed_row c.args.number app.leaf settled.waited false) x.tree.value } in
+    let held : AreConsistent after = held_followed p c.self.invariant.consistent c.args.number app.leaf settled.waited false in (
       tree_fits _ c.self.invariant.consistent.resources,
       (
         omega arith,
@@ -77,19 +75,20 @@ invariant_of-self g c =
     let position = c.position-2.ensures ∙ position_is _ c.self.invariant.consistent c.args.number c.in-Some.app.now c.in-Some.ensures.found c.in-Some.ensures.account in
     let first = c.position.ensures ∙ position_is _ c.self.invariant.consistent c.args.number c.in-Some.app.now c.in-Some.ensures.found c.in-Some.ensures.account in
     let placed = placed_at _ c.self.invariant.consistent c.args.number app there in
-    let follow = (rw c.deref_mut-tree.ensures.value at c.follow.ensures) ∙ (λ i. map (followed_row c.args.number ((ap (λ q. path_at q x.tree.value) first ∙ placed.position.path_is) i) (c.is_waiting.ensures i) false) x.tree.value) in
-    let after : Parts g.row.K = record p { rows = map (followed_row c.args.number app.leaf (is_waiting app) false) x.tree.value } in
-    let held : AreConsistent after = held_followed p c.self.invariant.consistent c.args.number app.leaf (is_waiting app) false in
-    let at = still_at (followed_row c.args.number app.leaf (is_waiting app) false) (followed_position c.args.number app.leaf (is_waiting app) false) (followed_path c.args.number app.leaf (is_waiting app) false) x.tree.value app.leaf _ placed.position in
+    let settled = rw (c.deref_mut-tree.ensures.value, first) at c.settle.ensures in
+    let follow = settled.rows ∙ ap (λ q. map (followed_row c.args.number q settled.waited false) x.tree.value) placed.position.path_is in
+    let after : Parts g.row.K = record p { rows = map (followed_row c.args.number app.leaf settled.waited false) x.tree.value } in
+    let held : AreConsistent after = held_followed p c.self.invariant.consistent c.args.number app.leaf settled.waited false in
+    let at = still_at (followed_row c.args.number app.leaf settled.waited false) (followed_position c.args.number app.leaf settled.waited false) (followed_path c.args.number app.leaf settled.waited false) x.tree.value app.leaf _ placed.position in
     let path = ap (λ q. path_at q after.rows) position ∙ at.path_is in
     let rows = (rw follow at c.leave.ensures) ∙ (λ i. map (left_row g.row.K (path i) (c.user.ensures i)) after.rows) in
     rw rows
     (record {
       consistent = held_left after held c.args.number app c.numbers_rise.ensures there none bare c.finish.new.self c.finish.ensures.table c.finish.ensures.accounts;
       waiting =
-          waited_same_table (remove_app c.args.number x.apps.table) c.finish.new.self.table _ c.finish.ensures.table
-          (waited_rows _ (moved_keeps g.row.K app.leaf app.user (one_app g.row.K) (zero_count g.row.K)) _ after.rows
-          (waited_left x.apps.table.active x.apps.table.next c.args.number app c.numbers_rise.ensures there x.tree.value c.self.invariant.waiting));
+          follows_same_table (remove_app c.args.number x.apps.table) c.finish.new.self.table _ c.finish.ensures.table
+          (follows_rows _ (moved_keeps g.row.K app.leaf app.user (one_app g.row.K) (zero_count g.row.K)) _ after.rows
+          (follows_left x.apps.table c.args.number app c.numbers_rise.ensures there x.tree.value _ placed.position _ settled c.self.invariant.waiting));
       impossible = no_more_wanted x.nodes.present x.apps.impossible c.finish.new.self.impossible c.finish.ensures.impossible c.self.invariant.impossible;
     })
 
@@ -97,8 +96,8 @@ pub returns-clause-finished : goal.returns-clause-finished
 returns-clause-finished g c =
     let x = c.self.inside in
     let p : Parts g.row.K = (record { rows = x.tree.value; limits = x.limits; apps = x.apps; nodes = x.nodes }) in
-    let follow = rw c.deref_mut-tree.ensures.value at c.follow.ensures in
-    let settings = ap queues_of c.leave.ensures ∙ moved_settings g.row.K _ c.user.result.now (one_app g.row.K) (zero_count g.row.K) c.follow.new.tree ∙ ap queues_of follow ∙ followed_settings c.args.number _ c.is_waiting.result false x.tree.value in
+    let settled = rw c.deref_mut-tree.ensures.value at c.settle.ensures in
+    let settings = ap queues_of c.leave.ensures ∙ moved_settings g.row.K _ c.user.result.now (one_app g.row.K) (zero_count g.row.K) c.settle.new.tree ∙ ap queues_of settled.rows ∙ followed_settings c.args.number _ settled.waited false x.tree.value in
     let ended = c.end_all-ended.new.self.flat in
     let dropped = ap (λ (h : ClusterState g.row.K). h.flat) c.self.view_is ∙ c.unreserve_app.ensures.flat in
     finished_is Released c.args.self.now.flat ended _ c.args.number c.end_all-ended.ensures.ended

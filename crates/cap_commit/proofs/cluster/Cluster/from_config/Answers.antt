@@ -2,7 +2,7 @@ use Rattle.cap_commit.proofs.Fitting.{in_cluster, nodes_in_cluster}
 use Rattle.cap_commit.proofs.Prelude.{ap, arith, AppTable, NodeTable}
 use Rattle.cap_commit.proofs.Holding.{held_opened}
 use Rattle.cap_commit.proofs.Sizes.{queue_fits, tree_fits}
-use Rattle.cap_commit.proofs.Waiting.{waited_opened}
+use Rattle.cap_commit.proofs.Followed.{follows_opened}
 use Rattle.cap_commit.proofs.Reach.{none_wanted}
 use Rattle.cap_commit.proofs.cluster.Cluster.from_config.Goals as goal
 
@@ -17,7 +17,7 @@ invariant_of-result g c =
       consistent =
           (held_opened _ (ap (λ (t : AppTable). t.active) c.new-2.ensures.table) c.new-2.ensures.accounts (ap (λ (t : NodeTable). t.live) c.new-3.ensures) (ap (λ (t : NodeTable). t.reserved) c.new-3.ensures) (omega (arith, first))
           c.in-Ok.ensures.unused c.limits_of-limits.ensures.few c.limits_of-limits.ensures.resources);
-      waiting = waited_opened g.row.K _ _ (ap (λ (t : AppTable). t.active) c.new-2.ensures.table) c.in-Ok.ensures.unused;
+      waiting = follows_opened g.row.K _ _ _ (ap (λ (t : AppTable). t.active) c.new-2.ensures.table) c.in-Ok.ensures.unused;
       impossible = none_wanted _ _ c.new-2.ensures.impossible;
     })
 

@@ -1,14 +1,13 @@
 use Rattle.cap_commit.proofs.Fitting.{in_cluster, node_in_cluster, nodes_in_cluster, apps_fit}
-use Rattle.cap_commit.proofs.Prelude.{◌≤◌, sym, ap, subst, ◌∙◌, arith, length, map, None, [], ◌∷◌, ◌++◌, ◌≡◌, ◌==◌, find, filter, not, option_map, unwrap_or, count_by-le-length, AreApart, Flat, App, ClusterNode, Container, NodeTable, Reservation, change_app, sight_of, reason_of, after_grant, take_one, use_alone, applied_row, queues_of, path_at, UsesRoom, ClusterState, flat_of, taken_back, IsSound, false, option_map_or, List, Row, AppTable, KeepsApp, only_app, count_of, count_changed, position_of, if◌then◌else◌, Parts, refl, Test, ℕ}
+use Rattle.cap_commit.proofs.Prelude.{◌≤◌, sym, ap, subst, ◌∙◌, arith, length, map, None, [], ◌∷◌, ◌++◌, ◌≡◌, ◌==◌, find, filter, not, option_map, unwrap_or, count_by-le-length, AreApart, Flat, App, ClusterNode, Container, NodeTable, Reservation, change_app, sight_of, reason_of, after_grant, take_one, use_alone, applied_row, path_at, UsesRoom, ClusterState, flat_of, taken_back, IsSound, List, Row, AppTable, KeepsApp, only_app, count_of, count_changed, position_of, if◌then◌else◌, Parts, refl, Test, ℕ}
 use Rattle.cap_commit.proofs.Granting.{its_app, its_node, its_room, few_live_yet, numbers_are_left}
 use Rattle.cap_commit.proofs.Granted.{found_again, granted_is, held_granted, kind_is, may_take_back, nodes_with, room_stays, root_stays, app_again, granted_table}
 use Rattle.cap_commit.proofs.Holding.{placed_at, position_is}
 use Rattle.cap_commit.proofs.Moving.{moved_settings, moved_stays}
 use Rattle.cap_commit.proofs.Sizes.{tree_fits}
-use Rattle.cap_commit.proofs.Followed.{followed_settings, held_followed, may_now, none_there, waited_now}
-use Rattle.cap_commit.proofs.Waiting.{moved_keeps, waited_rows}
-use Rattle.cap_commit.specs.Waiting.{followed_row, waits_of}
-use Rattle.cap_asks.specs.Apps.{is_waiting}
+use Rattle.cap_commit.proofs.Followed.{follows_now, follows_rows, held_now, may_now, settings_now, there_now}
+use Rattle.cap_commit.proofs.RowsAt.{or_no}
+use Rattle.cap_commit.proofs.Waiting.{moved_keeps}
 use Rattle.cap_commit.proofs.Reach.{no_more_wanted}
 use Rattle.cap_commit.proofs.cluster.Cluster.grant.Goals as goal
 
@@ -125,21 +124,23 @@ invariant_of-self-2 g c =
     let keeps : KeepsApp f = record { number = λ y. refl; leaf = λ y. refl; user = λ y. refl } in
     let table : c.add_grant.new.self.table ≡ change_app q.app f x.apps.table = granted_table p q c.take_one.new.self c.add_grant.new.self c.new-grant.result take add in
     let positions : (m : ℕ) → position_of m c.add_grant.new.self.accounts ≡ position_of m x.apps.accounts = λ m. room.positions m ∙ same_room.positions m in
-    let waited = waited_rows _ (moved_keeps g.row.K a.leaf a.user (use_alone (taken_back (sight_of (flat_of p)) q)) (use_alone q.resource)) x.apps.table.active x.tree.value c.self.invariant.waiting in
+    let waited = follows_rows _ (moved_keeps g.row.K a.leaf a.user (use_alone (taken_back (sight_of (flat_of p)) q)) (use_alone q.resource)) x.apps.table.active x.tree.value c.self.invariant.waiting in
     let stays = moved_stays g.row.K a.leaf a.user (use_alone (taken_back (sight_of (flat_of p)) q)) (use_alone q.resource) x.tree.value in
-    let was = c.is_waiting-waited.ensures ∙ sym (ap (λ o. option_map_or is_waiting o false) owner) in
-    let now = (rw (rw rows at c.deref_mut-tree-2.ensures.value) at c.follow_app.ensures) ∙ (λ i. map (followed_row (c.app-app.ensures i) (path_at (position_of (c.app-app.ensures i) c.add_grant.new.self.accounts) applied) (was i) (waits_of (c.app-app.ensures i) c.add_grant.new.self.table)) applied) in
-    rw (now, nodes)
+    let tree = rw rows at c.deref_mut-tree-2.ensures.value in
+    let none = rw (tree, c.app-app.ensures) at c.follow_app-is_left.ensures.none in
+    let some = rw (tree, c.app-app.ensures) at c.follow_app-is_left.ensures.some in
+    let reach =
+    no_more_wanted x.nodes.present c.take_one.new.self.impossible c.add_grant.new.self.impossible c.add_grant.ensures.impossible
+    (no_more_wanted x.nodes.present x.apps.impossible c.take_one.new.self.impossible c.take_one.ensures.impossible c.self.invariant.impossible) in
+    rw nodes
     (record {
-      consistent = held_followed _ held q.app _ _ _;
-      waiting = waited_now p c.self.invariant.consistent c.numbers_rise.ensures q.app f keeps c.add_grant.new.self table positions applied waited stays;
-      impossible =
-          no_more_wanted x.nodes.present c.take_one.new.self.impossible c.add_grant.new.self.impossible c.add_grant.ensures.impossible
-          (no_more_wanted x.nodes.present x.apps.impossible c.take_one.new.self.impossible c.take_one.ensures.impossible c.self.invariant.impossible);
+      consistent = held_now _ held q.app _ _ none some;
+      waiting = follows_now p c.self.invariant.consistent c.numbers_rise.ensures q.app f keeps c.add_grant.new.self table positions applied waited stays c.follow_app-is_left.result _ _ none some reach (or_no x.asleep c.follow_app-is_left.result);
+      impossible = reach;
     })
 
-pub follow_app-requires : goal.follow_app-requires
-follow_app-requires g c =
+pub follow_app-is_left-requires : goal.follow_app-is_left-requires
+follow_app-is_left-requires g c =
     let q = c.args.proposal.now in
     let x = c.self.inside in
     let same = ap (λ (y : ClusterState g.row.K). y.flat) c.self.view_is ∙ c.room_for_grant.ensures.flat in
@@ -168,9 +169,9 @@ follow_app-requires g c =
     let keeps : KeepsApp f = record { number = λ y. refl; leaf = λ y. refl; user = λ y. refl } in
     let table : c.add_grant.new.self.table ≡ change_app q.app f x.apps.table = granted_table p q c.take_one.new.self c.add_grant.new.self c.new-grant.result take add in
     let positions : (m : ℕ) → position_of m c.add_grant.new.self.accounts ≡ position_of m x.apps.accounts = λ m. room.positions m ∙ same_room.positions m in
-    let waited = waited_rows _ (moved_keeps g.row.K a.leaf a.user (use_alone (taken_back (sight_of (flat_of p)) q)) (use_alone q.resource)) x.apps.table.active x.tree.value c.self.invariant.waiting in
+    let waited = follows_rows _ (moved_keeps g.row.K a.leaf a.user (use_alone (taken_back (sight_of (flat_of p)) q)) (use_alone q.resource)) x.apps.table.active x.tree.value c.self.invariant.waiting in
     let stays = moved_stays g.row.K a.leaf a.user (use_alone (taken_back (sight_of (flat_of p)) q)) (use_alone q.resource) x.tree.value in
-    let was = c.is_waiting-waited.ensures ∙ sym (ap (λ o. option_map_or is_waiting o false) owner) in
+    let tree = rw rows at c.deref_mut-tree-2.ensures.value in
     let same_counts : (test : Test) → count_of test c.add_grant.new.self.table.active ≡ count_of test x.apps.table.active = λ test. ap (λ (t : AppTable). count_of test t.active) table ∙ count_changed (λ y. if y.number == q.app then f y else y) (only_app q.app f keeps) test x.apps.table.active in (
       tree_fits _ c.self.invariant.consistent.resources,
       (
@@ -178,8 +179,8 @@ follow_app-requires g c =
         (
           c.self.invariant.consistent.resources,
           (
-            rw (was, c.app-app.ensures) (none_there p c.self.invariant.consistent c.numbers_rise.ensures q.app f keeps c.add_grant.new.self table positions),
-            rw (was, c.app-app.ensures, rw rows at c.deref_mut-tree-2.ensures.value)
+            rw (c.app-app.ensures, tree) (there_now p c.self.invariant.consistent c.numbers_rise.ensures q.app f keeps c.add_grant.new.self table positions applied waited stays),
+            rw (c.app-app.ensures, tree)
                 (may_now p c.self.invariant.consistent c.numbers_rise.ensures q.app f keeps c.add_grant.new.self table positions applied waited stays _ held.tied same_counts),
           ),
         ),
@@ -207,14 +208,19 @@ returns-clause-ok g c =
     let add = c.add_grant.ensures.table ∙ ap (λ n. change_app n (λ (app : App). record app { grants = app.grants ++ c.new-grant.result ∷ [] }) c.take_one.new.self.table) c.app-app.ensures in
     let same_room = subst (λ n. UsesRoom n 0 0 0 x.apps.accounts c.take_one.new.self.accounts) c.app-app.ensures c.take_one.ensures.accounts in
     let room = subst (λ n. UsesRoom n 0 1 0 c.take_one.new.self.accounts c.add_grant.new.self.accounts) c.app-app.ensures c.add_grant.ensures.accounts in
-    let rows = rw c.deref_mut-tree.ensures.value at c.apply.ensures in
-    let follow = rw c.deref_mut-tree-2.ensures.value at c.follow_app.ensures in
-    let settings = ap queues_of follow ∙ followed_settings c.app-app.result _ c.is_waiting-waited.result (waits_of c.app-app.result c.add_grant.new.self.table) c.apply.new.self ∙ ap queues_of rows ∙ moved_settings g.row.K _ c.user.result.now (use_alone c.copied-old.result) (use_alone c.resource-resource.result) x.tree.value in
+    let path = ap (λ n. path_at n x.tree.value) position ∙ (placed_at _ c.self.invariant.consistent q.app a owner).position.path_is in
+    let rows = (rw c.deref_mut-tree.ensures.value at c.apply.ensures) ∙ (λ i. map (applied_row g.row.K (path i) (c.user.ensures i) (back i) (c.resource-resource.ensures.value i)) x.tree.value) in
+    let p : Parts g.row.K = record { rows = x.tree.value; limits = x.limits; apps = x.apps; nodes = x.nodes } in
+    let tree = rw rows at c.deref_mut-tree-2.ensures.value in
+    let none = rw (tree, c.app-app.ensures) at c.follow_app-is_left.ensures.none in
+    let some = rw (tree, c.app-app.ensures) at c.follow_app-is_left.ensures.some in
+    let held = held_granted p c.self.invariant.consistent q passes c.requires.kind a owner short count c.take_one.new.self c.add_grant.new.self c.new-grant.result take add same_room room in
+    let settings = settings_now _ held q.app _ _ none some ∙ moved_settings g.row.K a.leaf a.user (use_alone (taken_back (sight_of (flat_of p)) q)) (use_alone q.resource) x.tree.value in
     let present = ap (λ (t : NodeTable). t.present) c.unreserve.ensures ∙ ap (λ (t : NodeTable). t.present) c.in-Ok-place.ensures.ok.1 in
     let home = c.in-Some.ensures.found ∙ (λ i. find (λ (n : ClusterNode). n.number == c.node-node.ensures i) (present i)) in
     let host = c.host.ensures ∙ ap (λ o. unwrap_or (option_map (λ (n : ClusterNode). n.host) o) []) home in
     let told = c.new-grant.ensures ∙ (λ i. record { container = c.in-Ok-place.ensures.ok.0 i; key = c.key-key.ensures i; node = c.node-node.ensures i; host = host i; resource = c.resource-resource.ensures.value i }) in
-    let is = granted_is _ c.self.invariant.consistent q passes c.requires.kind a owner short count c.take_one.new.self c.add_grant.new.self c.new-grant.result take add same_room room c.follow_app.new.tree settings told in
+    let is = granted_is _ c.self.invariant.consistent q passes c.requires.kind a owner short count c.take_one.new.self c.add_grant.new.self c.new-grant.result take add same_room room c.follow_app-is_left.new.tree settings told in
     rw nodes (is ∙ (λ i. after_grant (same i) (record { number = sym c.in-Ok-place.ensures.ok.0 i; app = sym c.app-app.ensures i; key = sym c.key-key.ensures i; node = sym c.node-node.ensures i; resource = sym c.resource-resource.ensures.value i })))
 
 pub returns-clause-number : goal.returns-clause-number

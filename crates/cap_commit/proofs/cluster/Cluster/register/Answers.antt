@@ -1,10 +1,10 @@
-use Rattle.cap_commit.proofs.Prelude.{true, refl, App, ap, ◌∙◌, map, KeepsApp, Parts, flat_of, path_at, position_of, queues_of}
+use Rattle.cap_commit.proofs.Prelude.{true, refl, App, KeepsApp, Parts, flat_of}
 use Rattle.cap_commit.proofs.Holding.{held_app, with_table}
-use Rattle.cap_commit.proofs.Followed.{held_followed, may_now, none_there, waited_now, followed_settings}
+use Rattle.cap_commit.proofs.Followed.{follows_now, held_now, may_now, settings_now, there_now}
 use Rattle.cap_commit.proofs.Fitting.{apps_fit}
 use Rattle.cap_commit.proofs.Sizes.{tree_fits}
-use Rattle.cap_commit.specs.Waiting.{followed_row, waits_of}
 use Rattle.cap_commit.proofs.Reach.{no_more_wanted}
+use Rattle.cap_commit.proofs.RowsAt.{or_no}
 use Rattle.cap_commit.proofs.cluster.Cluster.register.Goals as goal
 
 pub invariant_of-self : goal.invariant_of-self
@@ -14,16 +14,17 @@ invariant_of-self g c =
     let f : App → App = λ app. record app { registered = true } in
     let keeps : KeepsApp f = record { number = λ a. refl; leaf = λ a. refl; user = λ a. refl } in
     let now = c.register.new.self in
-    let rows = (rw c.deref_mut-tree.ensures.value at c.follow_app.ensures) ∙ ap (λ b. map (followed_row n (path_at (position_of n now.accounts) x.tree.value) b (waits_of n now.table)) x.tree.value) c.waits-waited.ensures in
-    rw rows
-    (record {
-      consistent = held_followed _ (held_app _ c.self.invariant.consistent n 0 now f keeps c.register.ensures.table c.register.ensures.accounts) n _ _ _;
-      waiting = waited_now _ c.self.invariant.consistent c.numbers_rise.ensures n f keeps now c.register.ensures.table c.register.ensures.accounts.positions x.tree.value c.self.invariant.waiting (λ path position at. at);
-      impossible = no_more_wanted x.nodes.present x.apps.impossible now.impossible c.register.ensures.impossible c.self.invariant.impossible;
-    })
+    let none = rw c.deref_mut-tree.ensures.value at c.follow_app-is_left.ensures.none in
+    let some = rw c.deref_mut-tree.ensures.value at c.follow_app-is_left.ensures.some in
+    let reach = no_more_wanted x.nodes.present x.apps.impossible now.impossible c.register.ensures.impossible c.self.invariant.impossible in
+    record {
+      consistent = held_now _ (held_app _ c.self.invariant.consistent n 0 now f keeps c.register.ensures.table c.register.ensures.accounts) n _ _ none some;
+      waiting = follows_now _ c.self.invariant.consistent c.numbers_rise.ensures n f keeps now c.register.ensures.table c.register.ensures.accounts.positions x.tree.value c.self.invariant.waiting (λ path position at. at) c.follow_app-is_left.result _ _ none some reach (or_no x.asleep c.follow_app-is_left.result);
+      impossible = reach;
+    }
 
-pub follow_app-requires : goal.follow_app-requires
-follow_app-requires g c =
+pub follow_app-is_left-requires : goal.follow_app-is_left-requires
+follow_app-is_left-requires g c =
     let x = c.self.inside in
     let n = c.args.number in
     let p : Parts g.row.K = record { rows = x.tree.value; limits = x.limits; apps = x.apps; nodes = x.nodes } in
@@ -36,8 +37,8 @@ follow_app-requires g c =
         (
           c.self.invariant.consistent.resources,
           (
-            rw (c.waits-waited.ensures) (none_there p c.self.invariant.consistent c.numbers_rise.ensures n f keeps now c.register.ensures.table c.register.ensures.accounts.positions),
-            rw (c.waits-waited.ensures, c.deref_mut-tree.ensures.value)
+            rw c.deref_mut-tree.ensures.value (there_now p c.self.invariant.consistent c.numbers_rise.ensures n f keeps now c.register.ensures.table c.register.ensures.accounts.positions x.tree.value c.self.invariant.waiting (λ path position at. at)),
+            rw c.deref_mut-tree.ensures.value
                 (may_now p c.self.invariant.consistent c.numbers_rise.ensures n f keeps now c.register.ensures.table c.register.ensures.accounts.positions x.tree.value c.self.invariant.waiting (λ path position at. at) (flat_of p) c.self.invariant.consistent.tied (λ test. refl)),
           ),
         ),
@@ -47,7 +48,12 @@ follow_app-requires g c =
 pub returns-clause-flat : goal.returns-clause-flat
 returns-clause-flat g c =
     let x = c.self.inside in
+    let n = c.args.number in
     let p : Parts g.row.K = record { rows = x.tree.value; limits = x.limits; apps = x.apps; nodes = x.nodes } in
-    let follow = rw c.deref_mut-tree.ensures.value at c.follow_app.ensures in
-    let settings = ap queues_of follow ∙ followed_settings c.args.number _ c.waits-waited.result (waits_of c.args.number c.register.new.self.table) x.tree.value in
-    rw (← c.self.view_is) (with_table p c.follow_app.new.tree c.register.new.self _ settings c.register.ensures.table)
+    let f : App → App = λ app. record app { registered = true } in
+    let keeps : KeepsApp f = record { number = λ a. refl; leaf = λ a. refl; user = λ a. refl } in
+    let now = c.register.new.self in
+    let none = rw c.deref_mut-tree.ensures.value at c.follow_app-is_left.ensures.none in
+    let some = rw c.deref_mut-tree.ensures.value at c.follow_app-is_left.ensures.some in
+    let settings = settings_now _ (held_app _ c.self.invariant.consistent n 0 now f keeps c.register.ensures.table c.register.ensures.accounts) n _ _ none some in
+    rw (← c.self.view_is) (with_table p c.follow_app-is_left.new.tree now _ settings c.register.ensures.table)

@@ -6,7 +6,8 @@ use Rattle.cap_commit.proofs.Keeping.{held_reserved, may_take_none, reserve_kind
 use Rattle.cap_commit.proofs.Holding.{placed_at, position_is}
 use Rattle.cap_commit.proofs.Moving.{moved_settings}
 use Rattle.cap_commit.proofs.Sizes.{tree_fits}
-use Rattle.cap_commit.proofs.Waiting.{moved_keeps, waited_rows}
+use Rattle.cap_commit.proofs.Followed.{follows_rows}
+use Rattle.cap_commit.proofs.Waiting.{moved_keeps}
 use Rattle.cap_commit.proofs.cluster.Cluster.reserve.Goals as goal
 
 pub returns-clause-proposed : goal.returns-clause-proposed
@@ -53,7 +54,7 @@ invariant_of-self-2 g c =
     rw (rows, nodes)
     (record {
       consistent = held_reserved _ c.self.invariant.consistent q passes c.requires.kind a owner count;
-      waiting = waited_rows _ (moved_keeps g.row.K a.leaf a.user (use_alone (zeros g.row.K)) (use_alone q.resource)) x.apps.table.active x.tree.value c.self.invariant.waiting;
+      waiting = follows_rows _ (moved_keeps g.row.K a.leaf a.user (use_alone (zeros g.row.K)) (use_alone q.resource)) x.apps.table.active x.tree.value c.self.invariant.waiting;
       impossible = c.self.invariant.impossible;
     })
 

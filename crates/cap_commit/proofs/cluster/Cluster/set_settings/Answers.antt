@@ -2,7 +2,8 @@ use Rattle.cap_commit.proofs.Prelude.{ap, ◌∙◌, queues_of, Limits}
 use Rattle.cap_commit.proofs.Holding.{held_settings, with_queues}
 use Rattle.cap_commit.proofs.Ties.{rows_change}
 use Rattle.cap_commit.proofs.Fitting.{in_cluster}
-use Rattle.cap_commit.proofs.Waiting.{rows_keep, waited_rows}
+use Rattle.cap_commit.proofs.Followed.{follows_rows}
+use Rattle.cap_commit.proofs.Waiting.{rows_keep}
 use Rattle.cap_commit.proofs.Sizes.{tree_fits}
 use Rattle.cap_commit.proofs.cluster.Cluster.set_settings.Goals as goal
 
@@ -12,7 +13,7 @@ invariant_of-self g c =
     rw now
     (record {
       consistent = held_settings _ c.self.invariant.consistent _ _ c.limits_of-self-inside.result (rows_change c.args.config.now.queues) c.limits_of-self-inside.ensures.few;
-      waiting = waited_rows _ (rows_keep c.args.config.now.queues) c.self.inside.apps.table.active c.self.inside.tree.value c.self.invariant.waiting;
+      waiting = follows_rows _ (rows_keep c.args.config.now.queues) c.self.inside.apps.table.active c.self.inside.tree.value c.self.invariant.waiting;
       impossible = c.self.invariant.impossible;
     })
 

@@ -2,7 +2,8 @@ use Rattle.cap_commit.proofs.Prelude.{ap, ◌∙◌, arith, queues_of, path_at, 
 use Rattle.cap_commit.proofs.Holding.{held_settings, with_queues}
 use Rattle.cap_commit.proofs.Ties.{state_changes}
 use Rattle.cap_commit.proofs.Sizes.{tree_fits}
-use Rattle.cap_commit.proofs.Waiting.{state_keeps, waited_rows}
+use Rattle.cap_commit.proofs.Followed.{follows_rows}
+use Rattle.cap_commit.proofs.Waiting.{state_keeps}
 use Rattle.cap_commit.proofs.cluster.Cluster.set_state.Goals as goal
 
 pub invariant_of-self : goal.invariant_of-self
@@ -11,7 +12,7 @@ invariant_of-self g c =
     rw now
     (record {
       consistent = held_settings _ c.self.invariant.consistent _ _ c.self.inside.limits (state_changes (path_at c.args.position.now.items c.self.inside.tree.value) c.args.running) c.self.invariant.consistent.limit;
-      waiting = waited_rows _ (state_keeps (path_at c.args.position.now.items c.self.inside.tree.value) c.args.running) c.self.inside.apps.table.active c.self.inside.tree.value c.self.invariant.waiting;
+      waiting = follows_rows _ (state_keeps (path_at c.args.position.now.items c.self.inside.tree.value) c.args.running) c.self.inside.apps.table.active c.self.inside.tree.value c.self.invariant.waiting;
       impossible = c.self.invariant.impossible;
     })
 

@@ -1,4 +1,4 @@
-use Rattle.cap_commit.proofs.Fitting.{amounts_in_cluster, made_in_cluster}
+use Rattle.cap_commit.proofs.Fitting.{amounts_in_cluster, event_fits, made_in_cluster}
 use Rattle.cap_commit.proofs.Prelude.{sym, sight_of, rejected_exactly}
 use Rattle.cap_commit.proofs.cluster.Cluster.try_commit.Goals as goal
 
@@ -10,3 +10,6 @@ make-requires g c = ((search), ((search), (search amounts_in_cluster, (search ma
 
 pub admit-requires : goal.admit-requires
 admit-requires g c = search amounts_in_cluster
+
+pub event-requires : goal.event-requires
+event-requires g c = (search made_in_cluster, event_fits _ c.nodes.ensures.resources)

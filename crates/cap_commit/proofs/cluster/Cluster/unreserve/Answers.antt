@@ -4,7 +4,8 @@ use Rattle.cap_commit.proofs.Unreserving.{place_of, has_holder, may_give_reserve
 use Rattle.cap_commit.proofs.Holding.{placed_at, position_is}
 use Rattle.cap_commit.proofs.Moving.{moved_settings}
 use Rattle.cap_commit.proofs.Sizes.{tree_fits}
-use Rattle.cap_commit.proofs.Waiting.{moved_keeps, waited_rows}
+use Rattle.cap_commit.proofs.Followed.{follows_nodes, follows_rows}
+use Rattle.cap_commit.proofs.Waiting.{moved_keeps}
 use Rattle.cap_commit.proofs.Reach.{nodes_same}
 use Rattle.cap_commit.proofs.cluster.Cluster.unreserve.Goals as goal
 
@@ -48,7 +49,9 @@ invariant_of-self g c =
     rw rows
     (record {
       consistent = held_dropped _ c.self.invariant.consistent place.index one place.below place.at app owner (omega (arith, count)) c.unreserve.new.self (c.unreserve.ensures ∙ ap (λ rs. record x.nodes { reserved = rs }) left);
-      waiting = waited_rows _ (moved_keeps g.row.K app.leaf app.user (use_alone one.resource) (zero_count g.row.K)) x.apps.table.active x.tree.value c.self.invariant.waiting;
+      waiting =
+          follows_nodes x.nodes.present c.unreserve.new.self.present x.apps.table.active _ (λ wants. nodes_same x.nodes.present c.unreserve.new.self.present wants (ap (λ (t : NodeTable). t.present) c.unreserve.ensures))
+          (follows_rows _ (moved_keeps g.row.K app.leaf app.user (use_alone one.resource) (zero_count g.row.K)) x.apps.table.active x.tree.value c.self.invariant.waiting);
       impossible = nodes_same x.nodes.present c.unreserve.new.self.present x.apps.impossible (ap (λ (t : NodeTable). t.present) c.unreserve.ensures) c.self.invariant.impossible;
     })
 
