@@ -1,6 +1,6 @@
 -- The applications that a table gives for a number.
-use Rattle.cap_live.proofs.Prelude.{◌≡◌, ℕ, true, false, ◌&&◌, List, [], ◌∷◌, map, length, Option, Some, None, refl, sym, ◌∙◌, ap, subst, arith, nat_tests, not, ◌==◌, find, option_map, IfSome, MatchOption, IsSome, eqb-true, same_Some, found, IsIn, IsRising, found_by_number, seen_is, Account, HeldApp, account_of, is_waiting, App, AppTable, AppSight, Ask, Key, app_in, ask_at, app_sight, seen_app, sight_of, HasWaiter, ClusterState, HasNoNextApp, IsNextApp, Bor, All, each_of, waiting_at, option_map_or, HeldApps, position_of, IsRowOf, IsWaitedAt, IsAt, Row, queues_of, HasNoWaiter, IsNextWaiter, AreAmong, AreOutOfReach, Want}
-use Rattle.cap_live.proofs.Tied.{AreSame, next_is, none_is, seen_waiter, waits_there}
+use Rattle.cap_live.proofs.Prelude.{◌≡◌, ℕ, true, false, ◌&&◌, List, [], ◌∷◌, map, length, Option, Some, None, refl, sym, ◌∙◌, ap, subst, arith, nat_tests, not, ◌==◌, find, option_map, IfSome, MatchOption, IsSome, eqb-true, same_Some, found, IsIn, IsRising, found_by_number, seen_is, Account, HeldApp, account_of, is_waiting, App, AppTable, AppSight, Ask, Key, app_in, ask_at, app_sight, seen_app, sight_of, HasWaiter, ClusterState, HasNoNextApp, IsNextApp, Bor, All, each_of, waiting_at, option_map_or, HeldApps, position_of, FollowsWaiting, IsRowOf, IsServed, IsAt, Row, queues_of, HasNoWaiter, IsNextWaiter, AreAmong, AreOutOfReach, Want}
+use Rattle.cap_live.proofs.Tied.{AreSame, next_is, none_is, seen_waiter}
 
 module _ {K : ℕ} (c : ClusterState K) (rising : IsRising 1 (map (λ app. app.number) c.flat.apps.active) c.flat.apps.next) where
   -- a handle that was given for a number is that of the active application
@@ -33,15 +33,23 @@ module _ {K : ℕ} (c : ClusterState K) (rising : IsRising 1 (map (λ app. app.n
           let same = same_Some x app f in
           no_asks app.asks key (let t : app.registered && not (length app.asks == 0) ≡ false = subst (λ (y : App). is_waiting y ≡ false) same off in grind (arith, nat_tests, t, on))
 
+-- where a handle's application is
+pub held_at : {K : ℕ} (s : ClusterState K) (apps : HeldApps) → apps.table ≡ s.flat.apps → All (λ app. IsAt s.rows app.leaf (position_of app.number s.accounts)) apps.table.active → (held : HeldApp) → HasWaiter s held → IsAt s.rows held.app.leaf held.account.position
+held_at s apps table placed held h =
+    let places = subst (λ (t : AppTable). All (λ app. IsAt s.rows app.leaf (position_of app.number s.accounts)) t.active) table placed in
+    subst (IsAt s.rows held.app.leaf) (ap (λ (o : Option Account). option_map_or (λ a. a.position) o []) h.account)
+    (each_of (λ app. IsAt s.rows app.leaf (position_of app.number s.accounts)) s.flat.apps.active places held.app (found (λ (a : App). a.number == held.app.number) s.flat.apps.active held.app h.found).0)
+
 -- the handle of the number that comes next
 pub record IsHandle {K : ℕ} (c : ClusterState K) (after : Option AppSight) (r : Option (Bor HeldApp)) : Type 0 where
   pub has : IfSome r (λ b. HasWaiter c b.now)
+  pub served : IfSome r (λ b. IsServed c b.now)
   pub next : MatchOption r (HasNoNextApp (sight_of c.flat) after) (λ b. IsNextApp (sight_of c.flat) after (app_sight b.now.app))
 
 module _ {K : ℕ} (c : ClusterState K) (rising : IsRising 1 (map (λ app. app.number) c.flat.apps.active) c.flat.apps.next) where
-  pub handle_is : (after : Option AppSight) (n : ℕ) (app : App) → IsIn app c.flat.apps.active → is_waiting app ≡ true → app.number ≡ n → IsNextApp (sight_of c.flat) after (app_sight app) → (wants : List Want) → AreOutOfReach c.flat.nodes.present wants → (r : Option (Bor HeldApp)) →
+  pub handle_is : (after : Option AppSight) (n : ℕ) (app : App) → IsIn app c.flat.apps.active → is_waiting app ≡ true → app.number ≡ n → IsNextApp (sight_of c.flat) after (app_sight app) → ((p : List ℕ) → IsAt c.rows app.leaf p → IsIn app.number (waiting_at p c.rows)) → (apps : HeldApps) → apps.table ≡ c.flat.apps → All (λ app. IsAt c.rows app.leaf (position_of app.number c.accounts)) apps.table.active → (wants : List Want) → AreOutOfReach c.flat.nodes.present wants → (r : Option (Bor HeldApp)) →
       option_map (λ (b : Bor HeldApp). b.now.app) r ≡ app_in c.flat.apps n → option_map (λ (b : Bor HeldApp). b.now.account) r ≡ account_of n c.accounts → IfSome r (λ b. AreAmong b.now.impossible wants) → IsHandle c after r
-  handle_is after n app m w number next wants reach r e f among = by r e f among
+  handle_is after n app m w number next served apps table placed wants reach r e f among = by r e f among
     where
       there : app_in c.flat.apps n ≡ Some app
       there = subst (λ k. find (λ (a : App). a.number == k) c.flat.apps.active ≡ Some app) number (found_by_number (λ (a : App). a.number) 1 c.flat.apps.active c.flat.apps.next app rising m)
@@ -50,20 +58,15 @@ module _ {K : ℕ} (c : ClusterState K) (rising : IsRising 1 (map (λ app. app.n
       by None e f a = absurd (cc (e ∙ there))
       by (Some b) e f a =
           let same : app ≡ b.now.app = same_Some app b.now.app (sym there ∙ sym e) in
+          let has = has_waiter c rising n b.now (sym e) (sym f) (subst (λ (x : App). is_waiting x ≡ true) same w) (λ want m. reach want (a want m)) in
           record {
-            has = has_waiter c rising n b.now (sym e) (sym f) (subst (λ (x : App). is_waiting x ≡ true) same w) (λ want m. reach want (a want m));
+            has = has;
+            served = subst (λ (x : App). (p : List ℕ) → IsAt c.rows x.leaf p → IsIn x.number (waiting_at p c.rows)) same served b.now.account.position (held_at c apps table placed b.now has);
             next = subst (λ (x : App). IsNextApp (sight_of c.flat) after (app_sight x)) same next;
           }
 
--- where a handle's application is
-pub held_at : {K : ℕ} (s : ClusterState K) (apps : HeldApps) → apps.table ≡ s.flat.apps → All (λ app. IsAt s.rows app.leaf (position_of app.number s.accounts)) apps.table.active → (held : HeldApp) → HasWaiter s held → IsAt s.rows held.app.leaf held.account.position
-held_at s apps table placed held h =
-    let places = subst (λ (t : AppTable). All (λ app. IsAt s.rows app.leaf (position_of app.number s.accounts)) t.active) table placed in
-    subst (IsAt s.rows held.app.leaf) (ap (λ (o : Option Account). option_map_or (λ a. a.position) o []) h.account)
-    (each_of (λ app. IsAt s.rows app.leaf (position_of app.number s.accounts)) s.flat.apps.active places held.app (found (λ (a : App). a.number == held.app.number) s.flat.apps.active held.app h.found).0)
-
 -- what the tree comes to next, as a handle
-module _ {K : ℕ} (s : ClusterState K) (queues : queues_of s.rows ≡ s.flat.settings.queues) (tied : All (IsRowOf s.flat) s.rows) (waiting : All (IsWaitedAt s.flat.apps.active) s.rows) (apps : HeldApps) (table : apps.table ≡ s.flat.apps)
+module _ {K : ℕ} (s : ClusterState K) (queues : queues_of s.rows ≡ s.flat.settings.queues) (tied : All (IsRowOf s.flat) s.rows) (waiting : FollowsWaiting true s.flat.nodes.present s.flat.apps.active s.rows) (apps : HeldApps) (table : apps.table ≡ s.flat.apps)
     (accounts : apps.accounts ≡ s.accounts) (placed : All (λ app. IsAt s.rows app.leaf (position_of app.number s.accounts)) apps.table.active) (rising : IsRising 1 (map (λ app. app.number) apps.table.active) apps.table.next) (rows : List Row) (rows_are : rows ≡ s.rows) where
   rise : IsRising 1 (map (λ app. app.number) s.flat.apps.active) s.flat.apps.next
   rise = subst (λ (t : AppTable). IsRising 1 (map (λ app. app.number) t.active) t.next) table rising
@@ -75,11 +78,7 @@ module _ {K : ℕ} (s : ClusterState K) (queues : queues_of s.rows ≡ s.flat.se
       option_map (λ (b : Bor HeldApp). b.now.account) r ≡ account_of n apps.accounts → AreOutOfReach s.flat.nodes.present apps.impossible → IfSome r (λ b. AreAmong b.now.impossible apps.impossible) → IsHandle s after r
   some_next after at same n h r e f reach among =
       let x = next_is s.flat s.rows queues tied waiting (λ k. position_of k s.accounts) places rise after at same n (subst (λ ws. IsNextWaiter ws at n) rows_are h) in
-      handle_is s rise after n x.app x.member x.waits x.number x.next apps.impossible reach r (e ∙ ap (λ t. app_in t n) table) (f ∙ ap (account_of n) accounts) among
+      handle_is s rise after n x.app x.member x.waits x.number x.next x.served apps table placed apps.impossible reach r (e ∙ ap (λ t. app_in t n) table) (f ∙ ap (account_of n) accounts) among
 
   pub no_next : (after : Option AppSight) (at : Option (List ℕ × ℕ)) → AreSame s.rows after at → HasNoWaiter rows at → HasNoNextApp (sight_of s.flat) after
   no_next after at same h = none_is s.flat s.rows queues tied waiting (λ k. position_of k s.accounts) places rise after at same (subst (λ ws. HasNoWaiter ws at) rows_are h)
-
-  -- a handle's application waits
-  pub held_waits : (held : HeldApp) → HasWaiter s held → IsIn held.app.number (waiting_at held.account.position s.rows)
-  held_waits held h = waits_there s.flat.apps.active s.rows waiting held.app (found (λ (a : App). a.number == held.app.number) s.flat.apps.active held.app h.found).0 h.waits held.account.position (held_at s apps table placed held h)

@@ -19,14 +19,14 @@ pub use Rattle.cap_base.specs.Settings.{QueueRow}
 pub use Rattle.cap_base.specs.Texts.{star}
 pub use Rattle.cap_commit.proofs.RowsAt.{found_row, row_at}
 pub use Rattle.cap_commit.specs.Admission.{load_sight}
-pub use Rattle.cap_commit.specs.ClusterState.{AreOutOfReach, ClusterState, IsRowOf, IsWaitedAt, numbers_of, waits_where}
+pub use Rattle.cap_commit.specs.ClusterState.{AreOutOfReach, ClusterState, FollowsWaiting, IsRowOf, IsWaitedAt, numbers_of, waits_where}
 pub use Rattle.cap_farm.specs.Offers.{AreByKey, IsWhole}
 pub use Rattle.cap_farm.specs.Ring.{IsReserved, IsTurn, node_after, ring_index}
 pub use Rattle.cap_farm.specs.Rooms.{AreImpossible, IsIdle, IsImpossible, IsShut, IsShutFor, IsUnfit, in_limits, kind_by_room, taken_as}
 pub use Rattle.cap_farm.specs.Service.{HasNoNextApp, IsLater, IsNextApp, IsWaiter, app_cmp, levels_to}
 pub use Rattle.cap_laws.proofs.bounds.Wanting.{nodes_on, on_nodes}
 pub use Rattle.cap_laws.proofs.choice.Proposers.{seen_is}
-pub use Rattle.cap_live.specs.Waiters.{HasWaiter}
+pub use Rattle.cap_live.specs.Waiters.{HasWaiter, IsServed}
 pub use Rattle.cap_model.proofs.calls.KeptAsks.{same_key_is, same_key_itself}
 pub use Rattle.cap_model.proofs.lists.Numbered.{found_by_number, rising_kept}
 pub use Rattle.cap_model.specs.Admission.{takes_place}

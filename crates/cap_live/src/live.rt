@@ -52,7 +52,7 @@ impl<'a, const K: usize> Live<'a, K> {
 
 impl<'a, const K: usize> Farm<K> for Live<'a, K> {
     ghost use Rattle.cap_model.specs.Sight.{app_sight, sight_of};
-    ghost use Rattle.cap_live.specs.Waiters.{HasWaiter};
+    ghost use Rattle.cap_live.specs.Waiters.{HasWaiter, IsServed};
 
     type App = &'a App<K>;
 
@@ -61,6 +61,8 @@ impl<'a, const K: usize> Farm<K> for Live<'a, K> {
     ghost shown = { λ live app. app_sight app.now.app };
 
     ghost has = { λ live app. HasWaiter live app.now };
+
+    ghost served = { λ live app. IsServed live app.now };
 
     fn node_count(&self) -> usize {
         self.cluster.apps().asks_rise();

@@ -23,6 +23,14 @@ returns-clause-has g c =
     ((some_next c.self.inside.cluster.now t.queues t.tied t.waiting c.apps-apps.result.now a.table a.accounts a.placed c.numbers_rise.ensures c.tree-tree.result.now t.rows None None tt c.in-Some.number
     (subst (λ o. MatchOption o (HasNoWaiter c.tree-tree.result.now None) (IsNextWaiter c.tree-tree.result.now None)) c.in-Some.is c.first_served.ensures) c.app.result c.app.ensures.found c.app.ensures.account a.impossible c.app.ensures.impossible).has)
 
+pub returns-clause-served : goal.returns-clause-served
+returns-clause-served g c =
+    let t = c.tree-tree.ensures in
+    let a = c.apps-apps.ensures in
+    rw (← c.self.view_is)
+    ((some_next c.self.inside.cluster.now t.queues t.tied t.waiting c.apps-apps.result.now a.table a.accounts a.placed c.numbers_rise.ensures c.tree-tree.result.now t.rows None None tt c.in-Some.number
+    (subst (λ o. MatchOption o (HasNoWaiter c.tree-tree.result.now None) (IsNextWaiter c.tree-tree.result.now None)) c.in-Some.is c.first_served.ensures) c.app.result c.app.ensures.found c.app.ensures.account a.impossible c.app.ensures.impossible).served)
+
 pub returns-clause-first : goal.returns-clause-first
 returns-clause-first g c =
     let t = c.tree-tree.ensures in

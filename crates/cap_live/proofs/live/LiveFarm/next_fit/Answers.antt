@@ -1,3 +1,4 @@
+use Rattle.cap_live.proofs.Sizes.{cluster_of_few, nodes_of_few}
 use Rattle.cap_live.proofs.Prelude.{◌∙◌, ap, ClusterState, sight_of}
 use Rattle.cap_live.proofs.Nodes.{none_fits, unfit}
 use Rattle.cap_live.proofs.live.LiveFarm.next_fit.Goals as goal
@@ -10,3 +11,6 @@ returns-then-not-may_take g c =
 
 pub returns : goal.returns
 returns g c = unfit c.args.ask.now (sight_of c.args.self.now.flat).nodes c.args.first c.args.turn c.next_unreserved.result c.next_unreserved.ensures
+
+pub nodes-nodes-requires : goal.nodes-nodes-requires
+nodes-nodes-requires g c = (cluster_of_few _ c.self.invariant, nodes_of_few _ c.self.invariant)

@@ -1,6 +1,6 @@
 use Rattle.cap_live.proofs.Prelude.{◌∙◌, ap, sym, arith, length, inl, is_some, sight_of, ClusterState, NodeTable, load_sight, IsIdle}
 use Rattle.cap_live.proofs.Nodes.{count_is, held_none, load_at, next_turn, no_turn, until}
-use Rattle.cap_live.proofs.Sizes.{nodes_of_few}
+use Rattle.cap_live.proofs.Sizes.{cluster_of_few, nodes_of_few, nodes_of_few}
 use Rattle.cap_live.proofs.live.LiveFarm.next_reserved.Goals as goal
 
 pub loop-next-init : goal.loop-next-init
@@ -43,3 +43,6 @@ loop-next-preserved g c =
 
 pub returns : goal.returns
 returns g c = until (IsIdle (sight_of c.args.self.now.flat)) (sight_of c.args.self.now.flat).nodes c.args.first c.args.turn c.loop-next.next c.args.end c.loop-next-test.false c.loop-next.auto.next-end c.requires.turn c.loop-next.invariant
+
+pub nodes-nodes-requires : goal.nodes-nodes-requires
+nodes-nodes-requires g c = (cluster_of_few _ c.self.invariant, nodes_of_few _ c.self.invariant)

@@ -1,6 +1,6 @@
 use Rattle.cap_live.proofs.Prelude.{◌∙◌, ap, sym, arith, length, is_some, not, sight_of, ClusterState, NodeTable, load_sight, IsReserved}
 use Rattle.cap_live.proofs.Nodes.{count_is, load_at, next_turn, no_turn, until}
-use Rattle.cap_live.proofs.Sizes.{nodes_of_few}
+use Rattle.cap_live.proofs.Sizes.{cluster_of_few, nodes_of_few, nodes_of_few}
 use Rattle.cap_live.proofs.live.LiveFarm.next_unreserved.Goals as goal
 
 pub loop-next-init : goal.loop-next-init
@@ -38,3 +38,6 @@ returns g c =
     let m = count_is c.args.self.now.flat in
     let t = c.requires.turn in
     until IsReserved (sight_of c.args.self.now.flat).nodes c.args.first c.args.turn c.loop-next.next c.count-count.result c.loop-next-test.false c.loop-next.auto.next-end (omega (arith, n, m, t)) c.loop-next.invariant
+
+pub nodes-nodes-requires : goal.nodes-nodes-requires
+nodes-nodes-requires g c = (cluster_of_few _ c.self.invariant, nodes_of_few _ c.self.invariant)

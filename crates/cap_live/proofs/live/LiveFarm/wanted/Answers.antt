@@ -1,3 +1,4 @@
+use Rattle.cap_live.proofs.Sizes.{cluster_of_few, nodes_of_few}
 use Rattle.cap_live.proofs.Prelude.{◌∙◌, ◌≡◌, ◌-◌, ◌<◌, ap, sym, subst, refl, length, map, filter, Some, All, IsSome, option_map, slice_get, slice_get_read, AreApart, ClusterState, IsRising, NodeTable, is_for, node_in, sight_of, still_wanted}
 use Rattle.cap_live.proofs.Asks.{wanted_is}
 use Rattle.cap_live.proofs.live.LiveFarm.wanted.Goals as goal
@@ -16,3 +17,6 @@ returns g c =
     ap (option_map (still_wanted (sight_of flat) of.number)) at
     ∙ ap Some (wanted_is flat apart there rising of.number ask
     ∙ sym (c.saturating_sub.ensures ∙ (λ i. c.count.ensures i - (c.reserved_for.ensures ∙ (λ j. length (filter (is_for (c.number.ensures j) (c.key.ensures j)) (value j).reserved))) i)))
+
+pub nodes-nodes-requires : goal.nodes-nodes-requires
+nodes-nodes-requires g c = (cluster_of_few _ c.self.invariant, nodes_of_few _ c.self.invariant)
