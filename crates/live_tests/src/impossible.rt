@@ -1,6 +1,6 @@
 //! Tests of asks that no node could take, not even an empty one. They are passed over until a node comes that could.
 
-use crate::steps::{Act, Step, Wish, follow};
+use crate::steps::{Act, Step, Wish, follow, make};
 use cap_base::RESOURCES;
 use cap_testing::{Call, TWO_QUEUES, WantedContainers, cluster_after};
 use std::alloc::Global;
@@ -325,6 +325,56 @@ static FINISHED_BEFORE: [Step; 6] = [
     Step(Act::Commit, None),
 ];
 
+/// An act, and the application that waits first in the tree after it.
+struct Waiter(Act, Option<u64>);
+
+/// Application 1 waits in the tree while one of its asks may be possible: not with asks for an absent host alone, nor once
+/// the one that is possible is granted. It waits again when the host comes, and until its ask is put anew once that has gone.
+static IN_THE_TREE: [Waiter; 11] = [
+    Waiter(Act::Ask(0, &[Wish(1, 1, SMALL, b"n2")]), None),
+    Waiter(Act::Ask(1, &[Wish(2, 1, SMALL, b"*")]), Some(1)),
+    Waiter(Act::Commit, None),
+    Waiter(Act::Call(Call::RegisterNode(b"n3", b"/r3", MIDDLE)), None),
+    Waiter(
+        Act::Call(Call::RegisterNode(b"n2", b"/r2", MIDDLE)),
+        Some(1),
+    ),
+    Waiter(Act::Call(Call::NodeGone(3)), Some(1)),
+    Waiter(Act::Ask(2, &[Wish(1, 2, SMALL, b"n2")]), None),
+    Waiter(Act::Call(Call::Submit(b"root.a", b"u2")), None),
+    Waiter(Act::Call(Call::RegisterMaster(2)), None),
+    Waiter(Act::Call(Call::Allocate(2, 0, ANYWHERE, &[])), Some(2)),
+    Waiter(
+        Act::Call(Call::RegisterNode(b"n2", b"/r2", MIDDLE)),
+        Some(1),
+    ),
+];
+
+/// An application that sleeps finishes, and the one behind it sleeps on until its host comes.
+static FINISHED_ASLEEP: [Waiter; 6] = [
+    Waiter(Act::Ask(0, &[Wish(1, 1, SMALL, b"n2")]), None),
+    Waiter(Act::Call(Call::Submit(b"root.a", b"u2")), None),
+    Waiter(Act::Call(Call::RegisterMaster(2)), None),
+    Waiter(Act::Call(Call::Allocate(2, 0, ON_N2, &[])), None),
+    Waiter(Act::Call(Call::FinishMaster(1)), None),
+    Waiter(
+        Act::Call(Call::RegisterNode(b"n2", b"/r2", MIDDLE)),
+        Some(2),
+    ),
+];
+
+/// How many of the acts leave that application first in the tree, once the first node and application 1 are there.
+fn waited(alloc: Global, waiters: &[Waiter]) -> Option<usize> {
+    let mut cluster = cluster_after(alloc, TWO_QUEUES, &OPENING)?;
+    for (index, Waiter(act, first)) in waiters.iter().enumerate() {
+        make(alloc, &mut cluster, act)?;
+        if cluster.tree().first_served() != *first {
+            return Some(index);
+        }
+    }
+    Some(waiters.len())
+}
+
 /// How many of the steps are as they say once the first node and application 1 are there.
 fn followed(alloc: Global, steps: &[Step]) -> Option<usize> {
     let mut cluster = cluster_after(alloc, TWO_QUEUES, &OPENING)?;
@@ -384,4 +434,14 @@ fn an_application_behind_one_with_impossible_asks_is_served(rt: HostRuntime) {
 #[test]
 fn an_ask_waits_for_its_host_where_an_application_before_it_has_finished(rt: HostRuntime) {
     assert!(rt; followed(rt.alloc(), &FINISHED_BEFORE) == Some(6));
+}
+
+#[test]
+fn an_application_waits_in_the_tree_while_an_ask_may_be_possible(rt: HostRuntime) {
+    assert!(rt; waited(rt.alloc(), &IN_THE_TREE) == Some(11));
+}
+
+#[test]
+fn an_application_that_sleeps_may_finish(rt: HostRuntime) {
+    assert!(rt; waited(rt.alloc(), &FINISHED_ASLEEP) == Some(6));
 }

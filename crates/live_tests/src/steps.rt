@@ -26,7 +26,7 @@ pub(crate) enum Act {
 pub(crate) struct Step(pub(crate) Act, pub(crate) Option<(u32, u64)>);
 
 /// Makes a step. `None` if it is refused, nothing is proposed to be committed, or an allocation fails.
-fn make(alloc: Global, cluster: &mut Cluster<RESOURCES>, act: &Act) -> Option<()> {
+pub(crate) fn make(alloc: Global, cluster: &mut Cluster<RESOURCES>, act: &Act) -> Option<()> {
     match act {
         Act::Call(call) => make_call(alloc, cluster, call),
         Act::Ask(response, wishes) => ask(alloc, cluster, *response, wishes),
