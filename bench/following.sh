@@ -1,8 +1,8 @@
 #!/usr/bin/env bash
 # What a turn of a worker costs that follows the journal: it takes what was entered since its last turn, its own grant, makes that again on its cluster, proposes
 # there and commits. Counts its instructions by valgrind's callgrind, from the difference of 1,000 turns and 2,000: with 512 nodes, 64 leaf queues and 256
-# applications of one ask each, and with 4,096, 512 and 10,000 of eight asks each. Fails where it takes more than the bound beside each. Needs valgrind, a package
-# of most distributions.
+# applications of one ask each, with 4,096, 512 and 10,000 of eight asks each, and with 1,023 leaf queues of one parent. Fails where it takes more than the bound
+# beside each. Needs valgrind, a package of most distributions.
 . "$(dirname "${BASH_SOURCE[0]}")/common.sh"
 need_valgrind
 build_engine_runs
@@ -23,4 +23,5 @@ measure() {
 }
 measure 20000 512 64 256 1
 measure 30000 4096 512 10000 8
+measure 30000 512 1023 2046 1
 exit "$broken"

@@ -31,7 +31,7 @@ a_turn 0 512 64 256 256 999999 1024 2048 256 0
 at_most 150000 256 users at their limits, nothing granted
 a_turn 1 512 1 0 1 4096 999999 8192 1 1
 without=$each
-# beside APPLICATIONS ASKS SIZE PLACE BOUND WORDS..: a turn beside so many applications with so many such asks each, against the same without them. An empty bound is none
+# beside APPLICATIONS ASKS SIZE PLACE BOUND WORDS..: a turn beside so many applications with so many such asks each, against the same without them
 beside() {
   # shellcheck disable=SC2086
   a_turn 1 512 1 "$1" "$2" 4096 999999 "$3" 1 1 $4
@@ -42,8 +42,8 @@ beside() {
 beside 1 256 8192 "" 1.2 256 asks larger than any node
 beside 100 256 1024 host 1.2 100 applications of 256 asks for hosts that are not there
 beside 100 256 1024 rack 1.2 100 applications of 256 asks for racks that are not there
-beside 10000 16 1024 host "" 10,000 applications of 16 asks for hosts that are not there
-beside 10000 16 1024 rack "" 10,000 applications of 16 asks for racks that are not there
+beside 10000 16 1024 host 1.2 10,000 applications of 16 asks for hosts that are not there
+beside 10000 16 1024 rack 1.2 10,000 applications of 16 asks for racks that are not there
 
 # without a turn no worker follows, so that the host comes once
 for place in host late; do
