@@ -27,7 +27,7 @@ from importlib.machinery import SourceFileLoader
 from importlib.util import module_from_spec, spec_from_loader
 
 TOP = os.path.dirname(os.path.dirname(os.path.realpath(__file__)))
-EXPECTED = 243  # how many wrong bodies there are
+EXPECTED = 250  # how many wrong bodies there are
 SECONDS = 3600  # how long a check may take on a busy machine
 REFUSED_BY = re.compile(r"# refused by (.+?)(?<!:):(?!:)")  # what stands in backquotes there are functions, types, and clauses, which the word clause announces
 QUOTED = re.compile(r"(clauses? )?`([\w:]+)`")
