@@ -1,7 +1,7 @@
 #!/usr/bin/env bash
 # What a replica costs that follows the journal. Counts by valgrind's callgrind the instructions of a hold in which it takes what is new, of 0, 1, 16 and 256
 # Allocates of 20 asks, with 512 nodes and with 4,096; and of an Allocate of 20 asks, a Heartbeat, a RegisterNode and a Refresh of 512 leaf queues that it makes
-# again, beside the same call of a cluster alone. Each is the difference of two sizes, within the function that stands apart for it in engine_runs. Fails where a
+# again, beside the same call of a cluster alone. Each is the difference of two sizes, within the function that stands apart for it. Fails where a
 # hold takes more than 1,500 instructions and 100 for each entry, or a call made again takes more than 1.2 times those of the call. Needs valgrind, a package of
 # most distributions.
 . "$(dirname "${BASH_SOURCE[0]}")/common.sh"
@@ -10,7 +10,7 @@ build_engine_runs
 
 # within FUNCTION WORDS..: `total` is what that function takes where the program does this
 within() {
-  echo "${*:2}" | valgrind --tool=callgrind --toggle-collect="engine_runs::following::$1*" --callgrind-out-file=/dev/null "$program" >"$work/output" 2>"$work/messages" || { tail -n 5 "$work/messages" >&2; exit 1; }
+  echo "${*:2}" | valgrind --tool=callgrind --toggle-collect="$1*" --callgrind-out-file=/dev/null "$program" >"$work/output" 2>"$work/messages" || { tail -n 5 "$work/messages" >&2; exit 1; }
   total=$(sed -n 's/.*Collected : //p' "$work/messages")
   [ "$total" -gt 0 ] || { echo "no function is named $1" >&2; exit 1; }
 }
@@ -28,7 +28,7 @@ broken=0
 # a_hold NODES ENTRIES
 a_hold() {
   local most=$((1500 + 100 * $2))
-  each looker::take_news 1 100 news "$1" "$2"
+  each cap_testing::looker::take_news 1 100 news "$1" "$2"
   [ "$made" = "$((200 * $2)) taken" ] || { echo "not all entries are taken: $made" >&2; exit 1; }
   echo "a hold that takes $2 entries, with $1 nodes: $each instructions (at most $most)"
   [ "$each" -le "$most" ] || broken=1
@@ -39,9 +39,9 @@ done
 
 # again KIND LEAVES ROUNDS
 again() {
-  each alone::is_made 16 "$3" again "$1" alone "$2"
+  each engine_runs::following::alone::is_made 16 "$3" again "$1" alone "$2"
   local alone=$each
-  each looker::make_again 16 "$3" again "$1" replica "$2"
+  each cap_testing::looker::make_again 16 "$3" again "$1" replica "$2"
   [ "$made" = "$((32 * $3)) made" ] || { echo "not every call is made: $made" >&2; exit 1; }
   echo "$1: $alone instructions alone, $each made again"
   ratio "$alone" "$each" 1.2 || broken=1
